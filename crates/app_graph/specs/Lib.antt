@@ -1,0 +1,6 @@
+pub mod Words
+pub mod Rules
+pub mod Spelling
+pub mod ValueRules
+pub mod Numbering
+pub mod Validation

@@ -1,0 +1,16 @@
+//! Mode sets: the modes of a file with their applications, tasks and messages, and the rules that they keep.
+#![tactic(auto)]
+
+mod faults;
+mod keys;
+mod lists;
+mod mode_set;
+mod names;
+mod raw;
+
+pub use faults::GraphFault;
+pub use keys::Key;
+pub use lists::ListOf;
+pub use mode_set::{App, Message, Mode, ModeSet, Task};
+pub use names::Name;
+pub use raw::{RawApp, RawMessage, RawMode, RawSet, RawTask};
