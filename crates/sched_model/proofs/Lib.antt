@@ -20,6 +20,7 @@ pub mod Sums
 pub mod Backward
 pub mod FirstInstances
 pub mod OneTurn
+pub mod SmallModes
 pub mod OneList
 pub mod Fronts
 pub mod Refutations

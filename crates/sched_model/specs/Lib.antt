@@ -12,3 +12,4 @@ pub mod ScheduleList
 pub mod RefutationTree
 pub mod ValidMode
 pub mod Laws
+pub mod Examples
