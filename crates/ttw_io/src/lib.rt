@@ -5,6 +5,8 @@ mod memory;
 mod outside;
 mod reading;
 mod system;
+#[cfg(test)]
+mod tests;
 mod writing;
 
 pub use memory::{MemFiles, MemSink, SureFiles, SureSink};
