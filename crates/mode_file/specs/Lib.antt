@@ -1,0 +1,3 @@
+pub mod KeyText
+pub mod Walks
+pub mod Tables

@@ -1,0 +1,10 @@
+//! Mode files: reading one gives the mode set that it says, or the fault of the first rule that it breaks.
+#![tactic(auto)]
+
+mod faults;
+mod spelling;
+mod tables;
+mod unlisted;
+mod values;
+
+pub use faults::{FileFault, KeyText};
