@@ -1,5 +1,5 @@
 -- Small modes, and what the definitions say of them
-use Rattle.std.specs.Prelude.{◌≡◌, ℕ, ◌≤◌, codes, List, [], ◌∷◌, length, ℤ, pos, negsuc}
+use Rattle.std.specs.Prelude.{◌≡◌, ℕ, codes, List, [], ◌∷◌, length, ℤ, pos, negsuc}
 use Rattle.tick_num.specs.Differences.{diff}
 use Rattle.app_graph.specs.declared.mode_set.ModeSet.{ModeSet}
 use Rattle.sched_model.specs.declared.schedule.Schedule.{Schedule}
@@ -25,32 +25,44 @@ message number period from to = record { number = number; period = period; deadl
 
 abbrev pub loop : PlainMode
 loop = record {
-    slots = 2; round = 20; gap = 100; periods = 100 ∷ [];
-    tasks = task 0 1 2 100 ∷ task 1 0 5 100 ∷ task 2 2 1 100 ∷ [];
-    messages = message 0 100 0 1 ∷ message 1 100 1 2 ∷ [];
-  }
+  slots = 2;
+  round = 20;
+  gap = 100;
+  periods = 100 ∷ [];
+  tasks = task 0 1 2 100 ∷ task 1 0 5 100 ∷ task 2 2 1 100 ∷ [];
+  messages = message 0 100 0 1 ∷ message 1 100 1 2 ∷ [];
+}
 
 -- a mode file that says it
 abbrev pub loop_set : ModeSet
 loop_set = record {
-    slots = 2; round = pos 20; gap = pos 100; host = 0; nodes = codes "n0" ∷ codes "n1" ∷ codes "n2" ∷ [];
-    modes = record { name = codes "run"; apps = record {
-        name = codes "loop"; period = pos 100; deadline = pos 100;
-        tasks = record { name = codes "sense"; node = 1; wcet = pos 2; body = codes "tally"; number = 0 }
+  slots = 2;
+  round = pos 20;
+  gap = pos 100;
+  host = 0;
+  nodes = codes "n0" ∷ codes "n1" ∷ codes "n2" ∷ [];
+  modes = record {
+    name = codes "run";
+    apps = record {
+      name = codes "loop";
+      period = pos 100;
+      deadline = pos 100;
+      tasks = record { name = codes "sense"; node = 1; wcet = pos 2; body = codes "tally"; number = 0 }
           ∷ record { name = codes "ctrl"; node = 0; wcet = pos 5; body = codes "tally"; number = 1 }
           ∷ record { name = codes "act"; node = 2; wcet = pos 1; body = codes "tally"; number = 2 } ∷ [];
-        messages = record { name = codes "m1"; from = 0 ∷ []; to = 1 ∷ []; number = 0 } ∷ record { name = codes "m2"; from = 1 ∷ []; to = 2 ∷ []; number = 1 } ∷ [];
-      } ∷ [] } ∷ [];
-  }
+      messages = record { name = codes "m1"; from = 0 ∷ []; to = 1 ∷ []; number = 0 } ∷ record { name = codes "m2"; from = 1 ∷ []; to = 2 ∷ []; number = 1 } ∷ [];
+    } ∷ [];
+  } ∷ [];
+}
 
 -- a schedule of two rounds, of which the second starts at this tick
 abbrev pub loop_plan : ℤ → Schedule
 loop_plan second = record {
-    starts = pos 0 ∷ second ∷ [];
-    tasks = pos 21 ∷ pos 43 ∷ pos 120 ∷ [];
-    messages = (pos 23, pos 43) ∷ (pos 48, pos 120) ∷ [];
-    tables = (1 ∷ []) ∷ (0 ∷ []) ∷ [];
-  }
+  starts = pos 0 ∷ second ∷ [];
+  tasks = pos 21 ∷ pos 43 ∷ pos 120 ∷ [];
+  messages = (pos 23, pos 43) ∷ (pos 48, pos 120) ∷ [];
+  tables = (1 ∷ []) ∷ (0 ∷ []) ∷ [];
+}
 
 -- a tree that refutes one round
 abbrev pub loop_nodes : List TreeNode
@@ -78,10 +90,13 @@ pub record LoopExample : Type 0 where
 
 abbrev pub half : PlainMode
 half = record {
-    slots = 2; round = 10; gap = 100; periods = 50 ∷ 100 ∷ [];
-    tasks = task 0 1 2 50 ∷ task 1 0 5 50 ∷ record { number = 2; app = 1; node = 2; wcet = 1; period = 100; deadline = 100 } ∷ [];
-    messages = message 0 50 0 1 ∷ [];
-  }
+  slots = 2;
+  round = 10;
+  gap = 100;
+  periods = 50 ∷ 100 ∷ [];
+  tasks = task 0 1 2 50 ∷ task 1 0 5 50 ∷ record { number = 2; app = 1; node = 2; wcet = 1; period = 100; deadline = 100 } ∷ [];
+  messages = message 0 50 0 1 ∷ [];
+}
 
 pub record HalfExample : Type 0 where
   pub twice : instances half ≡ 2
@@ -92,10 +107,13 @@ pub record HalfExample : Type 0 where
 
 abbrev pub shared : ℕ → PlainMode
 shared wcet = record {
-    slots = 1; round = 3; gap = 12; periods = 4 ∷ 6 ∷ [];
-    tasks = task 0 0 1 4 ∷ record { number = 1; app = 1; node = 0; wcet = wcet; period = 6; deadline = 6 } ∷ [];
-    messages = [];
-  }
+  slots = 1;
+  round = 3;
+  gap = 12;
+  periods = 4 ∷ 6 ∷ [];
+  tasks = task 0 0 1 4 ∷ record { number = 1; app = 1; node = 0; wcet = wcet; period = 6; deadline = 6 } ∷ [];
+  messages = [];
+}
 
 pub record SharedExample : Type 0 where
   pub hyperperiod : hyper (shared 1) ≡ 12
