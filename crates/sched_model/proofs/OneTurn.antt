@@ -103,7 +103,7 @@ module _ (m : PlainMode) (r : ℕ) (s : Schedule) (ok : IsValid m) (shape : HasS
       ∙ ap (λ y. round_start s y +ℤ pos ((x * n + j) / n * hyper m)) (mod-mul-add x n j l) ∙ ap (λ y. round_start s j +ℤ pos (y * hyper m)) (div-mul-add x n j l)
 
   -- rounds start within the hyperperiod
-  in_hyper : (j : ℕ) → j < length s.starts → round_start s j <ℤ pos (hyper m)
+  pub in_hyper : (j : ℕ) → j < length s.starts → round_start s j <ℤ pos (hyper m)
   in_hyper j l =
       let n = length s.starts in
       let up = rises m s some rounds (suc j) n (omega arith) (omega (arith, l)) in

@@ -12,6 +12,7 @@ use Rattle.sched_model.specs.OpenPrefix.{FullOpen}
 use Rattle.sched_model.specs.SearchCost.{Visited, Cost, SpentAt}
 use Rattle.sched_model.specs.PrintedSchedule.{FirstList, schedule_of}
 use Rattle.sched_model.specs.ScheduleList.{HasList}
+use Rattle.sched_model.specs.TimeLimits.{HasTimes}
 use Rattle.sched_model.specs.RefutationTree.{Node, IsTree, IsOwnTree, ValidTree, OwnTree}
 use Rattle.sched_model.specs.ValidMode.{IsValid}
 
@@ -36,6 +37,10 @@ OneHyperperiodDecides = (m : PlainMode) (r : ℕ) (s : Schedule) → IsValid m �
     ((a b : ℕ) → a < length m.tasks → b < length m.tasks → RunsApart m s a b ↔ ClassesApart m s a b)
     × (AllServed m s ↔ ServedOnce m s)
     × (((i g : ℕ) → i < length m.messages → 1 ≤ g → Carries m s i g → Timely m s i g) ↔ EntriesFit m s)
+
+-- every right schedule has its times from 0 to 2,000,000,000,000
+abbrev pub SchedulesHaveTimes : Type 0
+SchedulesHaveTimes = (m : PlainMode) (r : ℕ) (s : Schedule) → IsValid m → IsSchedule m r s → HasTimes s
 
 -- where r rounds have a valid tree, they have no right schedule
 abbrev pub TreesRefute : Type 0

@@ -1,6 +1,6 @@
 //! Laws of schedules and of their search that other crates stand on.
 
-ghost use Rattle.sched_model.specs.Laws.{CostsAreOne, FirstListIsOne, ListsAreSchedules, OneHyperperiodDecides, OwnTreesAreValid, SchedulesHaveOneList, SolutionsAreSchedules, TreesRefute};
+ghost use Rattle.sched_model.specs.Laws.{CostsAreOne, FirstListIsOne, ListsAreSchedules, OneHyperperiodDecides, OwnTreesAreValid, SchedulesHaveOneList, SchedulesHaveTimes, SolutionsAreSchedules, TreesRefute};
 
 /// A valid mode has a right schedule of some rounds exactly where a full list of choices is open.
 pub fn lists_are_schedules()
@@ -21,6 +21,11 @@ pub fn solutions_are_schedules()
 /// are finite tests of one hyperperiod.
 pub fn one_hyperperiod_decides()
     ensures { OneHyperperiodDecides }
+{}
+
+/// Every right schedule of a valid mode has its times from 0 to 2,000,000,000,000.
+pub fn schedules_have_times()
+    ensures { SchedulesHaveTimes }
 {}
 
 /// A valid tree shows that a valid mode has no right schedule of so many rounds.
