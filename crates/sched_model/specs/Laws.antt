@@ -1,6 +1,6 @@
 -- Laws of schedules, of the constraint problem and of the search
 use Rattle.std.specs.Prelude.{◌≡◌, ℕ, ◌<◌, ◌≤◌, ◌↔◌, List, length, ℤ, pos}
-use Rattle.tick_num.specs.Differences.{MeetsAll}
+use Rattle.tick_num.specs.Differences.{MeetsAll, LeastValues}
 use Rattle.sched_model.specs.declared.schedule.Schedule.{Schedule}
 use Rattle.sched_model.specs.declared.trees.TreeNode.{TreeNode}
 use Rattle.sched_model.specs.PlainMode.{PlainMode}
@@ -8,9 +8,9 @@ use Rattle.sched_model.specs.Rounds.{Carries}
 use Rattle.sched_model.specs.RightSchedule.{HasShape, RoundsFit, OffsetFits, MessageFits, RunsApart, AllServed, Timely, IsSchedule}
 use Rattle.sched_model.specs.OneHyperperiod.{ClassesApart, ServedOnce, EntriesFit}
 use Rattle.sched_model.specs.ConstraintProblem.{in_force}
-use Rattle.sched_model.specs.OpenPrefix.{FullOpen}
+use Rattle.sched_model.specs.OpenPrefix.{FullOpen, Open}
 use Rattle.sched_model.specs.SearchCost.{Visited, Cost, SpentAt}
-use Rattle.sched_model.specs.PrintedSchedule.{FirstList, schedule_of}
+use Rattle.sched_model.specs.PrintedSchedule.{FirstList, schedule_of, Printed}
 use Rattle.sched_model.specs.ScheduleList.{HasList}
 use Rattle.sched_model.specs.TimeLimits.{HasTimes}
 use Rattle.sched_model.specs.RefutationTree.{Node, IsTree, IsOwnTree, ValidTree, OwnTree}
@@ -41,6 +41,16 @@ OneHyperperiodDecides = (m : PlainMode) (r : ℕ) (s : Schedule) → IsValid m �
 -- every right schedule has its times from 0 to 2,000,000,000,000
 abbrev pub SchedulesHaveTimes : Type 0
 SchedulesHaveTimes = (m : PlainMode) (r : ℕ) (s : Schedule) → IsValid m → IsSchedule m r s → HasTimes s
+
+-- an open prefix has least values, one family of them, and the first round starts at 0 in them
+abbrev pub LeastValuesExist : Type 0
+LeastValuesExist = (m : PlainMode) (r : ℕ) (p : List ℤ) → IsValid m → 1 ≤ r → Open m r p →
+    (v : ℕ → ℤ) × LeastValues (in_force m r p) v × (v 0 ≡ pos 0) × ((w : ℕ → ℤ) → LeastValues (in_force m r p) w → (x : ℕ) → w x ≡ v x)
+
+-- what is printed for r rounds is a right schedule, and it is one
+abbrev pub PrintedIsRight : Type 0
+PrintedIsRight = (m : PlainMode) (r : ℕ) → ((s : Schedule) → IsValid m → 1 ≤ r → Printed m r s → IsSchedule m r s)
+    × ((s t : Schedule) → Printed m r s → Printed m r t → s ≡ t)
 
 -- where r rounds have a valid tree, they have no right schedule
 abbrev pub TreesRefute : Type 0

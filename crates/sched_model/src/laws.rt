@@ -1,6 +1,6 @@
 //! Laws of schedules and of their search that other crates stand on.
 
-ghost use Rattle.sched_model.specs.Laws.{CostsAreOne, FirstListIsOne, ListsAreSchedules, OneHyperperiodDecides, OwnTreesAreValid, SchedulesHaveOneList, SchedulesHaveTimes, SolutionsAreSchedules, TreesRefute};
+ghost use Rattle.sched_model.specs.Laws.{CostsAreOne, FirstListIsOne, LeastValuesExist, ListsAreSchedules, OneHyperperiodDecides, OwnTreesAreValid, PrintedIsRight, SchedulesHaveOneList, SchedulesHaveTimes, SolutionsAreSchedules, TreesRefute};
 
 /// A valid mode has a right schedule of some rounds exactly where a full list of choices is open.
 pub fn lists_are_schedules()
@@ -26,6 +26,16 @@ pub fn one_hyperperiod_decides()
 /// Every right schedule of a valid mode has its times from 0 to 2,000,000,000,000.
 pub fn schedules_have_times()
     ensures { SchedulesHaveTimes }
+{}
+
+/// An open prefix of a valid mode has least values, which are one family and have the first round at 0.
+pub fn least_values_exist()
+    ensures { LeastValuesExist }
+{}
+
+/// The printed schedule of a valid mode is right, and for a number of rounds there is one at most.
+pub fn printed_is_right()
+    ensures { PrintedIsRight }
 {}
 
 /// A valid tree shows that a valid mode has no right schedule of so many rounds.
