@@ -21,6 +21,7 @@ pub mod Backward
 pub mod FirstInstances
 pub mod OneTurn
 pub mod SmallModes
+pub mod Stored
 pub mod OwnTrees
 pub mod Leasts
 pub mod Variables

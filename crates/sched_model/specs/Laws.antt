@@ -1,5 +1,5 @@
 -- Laws of schedules, of the constraint problem and of the search
-use Rattle.std.specs.Prelude.{◌≡◌, ℕ, ◌<◌, ◌≤◌, ◌↔◌, List, length, ℤ, pos}
+use Rattle.std.specs.Prelude.{◌≡◌, ℕ, ◌<◌, ◌≤◌, ◌↔◌, List, length, ℤ, pos, ◌⊎◌}
 use Rattle.tick_num.specs.Differences.{MeetsAll, LeastValues}
 use Rattle.sched_model.specs.declared.schedule.Schedule.{Schedule}
 use Rattle.sched_model.specs.declared.trees.TreeNode.{TreeNode}
@@ -9,7 +9,7 @@ use Rattle.sched_model.specs.RightSchedule.{HasShape, RoundsFit, OffsetFits, Mes
 use Rattle.sched_model.specs.OneHyperperiod.{ClassesApart, ServedOnce, EntriesFit}
 use Rattle.sched_model.specs.ConstraintProblem.{in_force}
 use Rattle.sched_model.specs.OpenPrefix.{FullOpen, Open}
-use Rattle.sched_model.specs.SearchCost.{Visited, Cost, SpentAt}
+use Rattle.sched_model.specs.SearchCost.{Visited, Cost, SpentAt, LeadsAt}
 use Rattle.sched_model.specs.PrintedSchedule.{FirstList, schedule_of, Printed}
 use Rattle.sched_model.specs.ScheduleList.{HasList}
 use Rattle.sched_model.specs.TimeLimits.{HasTimes}
@@ -61,6 +61,21 @@ TreesRefute = (m : PlainMode) (r : ℕ) → IsValid m → ((nodes : List Node) �
 abbrev pub OwnTreesAreValid : Type 0
 OwnTreesAreValid = (m : PlainMode) (r : ℕ) → ((nodes : List Node) → IsOwnTree m r nodes → IsTree m r nodes)
     × ((nodes : List TreeNode) (refs : List ℕ) → OwnTree m r nodes refs → ValidTree m r nodes refs)
+
+-- the empty list of choices leads exactly where a full list is open
+abbrev pub LeadingIsFullOpen : Type 0
+LeadingIsFullOpen = (m : PlainMode) (r : ℕ) → LeadsAt m r ↔ ((p : List ℤ) × FullOpen m r p)
+
+-- an own tree exists exactly where the empty list of choices does not lead, and a tree can be stored
+abbrev pub OwnTreeOrLeads : Type 0
+OwnTreeOrLeads = (m : PlainMode) (r : ℕ) → IsValid m → 1 ≤ r → (((nodes : List Node) × IsOwnTree m r nodes) ⊎ LeadsAt m r)
+    × (((nodes : List Node) × IsOwnTree m r nodes) ↔ (¬ (LeadsAt m r)))
+    × (((nodes : List TreeNode) × (refs : List ℕ) × OwnTree m r nodes refs) ↔ (¬ (LeadsAt m r)))
+
+-- an own tree has a node for each visited prefix
+abbrev pub OwnTreesCountVisits : Type 0
+OwnTreesCountVisits = (m : PlainMode) (r : ℕ) → ((nodes : List Node) → IsOwnTree m r nodes → Visited m r (length nodes))
+    × ((nodes : List TreeNode) (refs : List ℕ) → OwnTree m r nodes refs → Visited m r (length nodes))
 
 -- a number of rounds has one count of visited prefixes, a mode has one cost, and a budget is spent at one number of rounds
 abbrev pub CostsAreOne : Type 0
