@@ -2,7 +2,7 @@
 
 use crate::spelling::is_name;
 use app_graph::{Key, Name};
-use std::alloc::{AllocError, Global};
+use std::alloc::{AllocError, AllocFailed, Global};
 use std::marker::Model;
 
 /// A key as a fault tells it: the key where it is spelled as a name, and `?` otherwise. A contract sees its bytes.
@@ -70,4 +70,26 @@ pub enum FileFault {
     TooMany(Key),
     /// Memory ran out.
     Memory,
+}
+
+impl From<AllocError> for FileFault {
+    ghost use Rattle.std.specs.Prelude.{◌≡◌};
+    ghost use Rattle.mode_file.specs.declared.faults.FileFault.TheVariants.{Memory};
+
+    ghost from_gives = { λ _ fault. fault ≡ Memory };
+
+    fn from(_error: AllocError) -> Self {
+        FileFault::Memory
+    }
+}
+
+impl<T: Drop> From<AllocFailed<T>> for FileFault {
+    ghost use Rattle.std.specs.Prelude.{◌≡◌};
+    ghost use Rattle.mode_file.specs.declared.faults.FileFault.TheVariants.{Memory};
+
+    ghost from_gives = { λ _ fault. fault ≡ Memory };
+
+    fn from(_error: AllocFailed<T>) -> Self {
+        FileFault::Memory
+    }
 }
