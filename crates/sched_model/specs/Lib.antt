@@ -1,0 +1,14 @@
+pub mod Numbers
+pub mod PlainMode
+pub mod TaskGraph
+pub mod Rounds
+pub mod RightSchedule
+pub mod OneHyperperiod
+pub mod ConstraintProblem
+pub mod OpenPrefix
+pub mod SearchCost
+pub mod PrintedSchedule
+pub mod ScheduleList
+pub mod RefutationTree
+pub mod ValidMode
+pub mod Laws
