@@ -5,10 +5,10 @@ use Rattle.std.proofs.lemmas.List.{append-nil, map-append, map_more, take-append
 use Rattle.std.proofs.lemmas.List.Folds.{list_all-map}
 use Rattle.std.proofs.lemmas.List.Elements.{filter_map-append}
 use Rattle.std.proofs.lemmas.Option.{same_Some}
-use Rattle.toml.specs.Data.{Data, Items, no_items, Members, string, integer, float, boolean, datetime, array, table, as_str, as_array, as_table}
+use Rattle.toml.specs.Data.{Data, array, as_str, as_array, as_table}
 use Rattle.toml.specs.View.{view, items_view}
 use Rattle.toml.specs.declared.value.Value.{Value}
-use Rattle.mode_file.specs.Tables.{TextArray, TableArray, has_kind, items, array_items, texts_in, tables_in}
+use Rattle.mode_file.specs.Tables.{TextArray, TableArray, has_kind, items, array_items}
 
 -- the items of an array are its values as data
 pub items_seen : (vs : List Value) → items (items_view vs) ≡ map view vs

@@ -1,5 +1,5 @@
 -- The first broken rule of lists of rules
-use Rattle.std.proofs.Common.{◌≡◌, List, [], ◌∷◌, ◌++◌, Option, Some, None, refl, ap, ◌∙◌, sym}
+use Rattle.std.proofs.Common.{◌≡◌, List, [], ◌∷◌, ◌++◌, Some, None, refl, ap, ◌∙◌, sym}
 use Rattle.app_graph.specs.Rules.{Rule, first_of, each}
 use Rattle.mode_file.specs.declared.faults.FileFault.{FileFault}
 use Rattle.mode_file.specs.declared.faults.FileFault.TheVariants.{Memory}

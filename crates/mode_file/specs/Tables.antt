@@ -5,7 +5,7 @@ use Rattle.std.specs.Str.{bytes_eq}
 use Rattle.std.specs.Ordering.{nat_cmp, is_lt}
 use Rattle.std.specs.Option.{option_and_then, option_map_or}
 use Rattle.std.specs.Cmp.Lexicographic.{slice_cmp}
-use Rattle.toml.specs.Data.{Data, string, integer, array, table, Items, no_items, item, Members, no_members, member, get_member, as_str, as_integer, as_array, as_table}
+use Rattle.toml.specs.Data.{Data, string, integer, array, Items, no_items, item, Members, no_members, member, get_member, as_str, as_integer, as_array, as_table}
 use Rattle.app_graph.specs.declared.keys.Key.{Key}
 use Rattle.app_graph.specs.declared.keys.Key.TheVariants.{KSlots, KRound, KGap, KHost, KNodes, KMode, KName, KApp, KPeriod, KDeadline, KTask, KMessage, KNode, KWcet, KBody, KFrom, KTo}
 use Rattle.app_graph.specs.declared.raw.RawTask.{RawTask}

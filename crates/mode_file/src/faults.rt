@@ -1,7 +1,7 @@
 //! What is wrong with a mode file.
 
 use crate::spelling::is_name;
-use app_graph::{Key, Name};
+use app_graph::{GraphFault, Key, Name};
 use std::alloc::{AllocError, AllocFailed, Global};
 use std::marker::Model;
 
@@ -91,5 +91,25 @@ impl<T: Drop> From<AllocFailed<T>> for FileFault {
 
     fn from(_error: AllocFailed<T>) -> Self {
         FileFault::Memory
+    }
+}
+
+impl From<GraphFault> for FileFault {
+    ghost use Rattle.std.specs.Prelude.{◌≡◌};
+    ghost use Rattle.mode_file.specs.Faults.{of_graph};
+
+    ghost from_gives = { λ graph fault. fault ≡ of_graph graph };
+
+    fn from(fault: GraphFault) -> Self {
+        match fault {
+            GraphFault::OutOfRange(key) => FileFault::OutOfRange(key),
+            GraphFault::Repeated(name) => FileFault::Repeated(name),
+            GraphFault::Unknown(name) => FileFault::Unknown(name),
+            GraphFault::TwoSenders(name) => FileFault::TwoSenders(name),
+            GraphFault::Cycle(name) => FileFault::Cycle(name),
+            GraphFault::DeadlineLong(name) => FileFault::DeadlineLong(name),
+            GraphFault::TooMany(key) => FileFault::TooMany(key),
+            GraphFault::Memory => FileFault::Memory,
+        }
     }
 }

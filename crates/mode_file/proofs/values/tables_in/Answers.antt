@@ -1,4 +1,4 @@
-use Rattle.std.proofs.Common.{◌≡◌, true, false, refl, ap}
+use Rattle.std.proofs.Common.{◌≡◌, true, false, refl}
 use Rattle.toml.specs.View.{view}
 use Rattle.mode_file.specs.Tables.{TableArray, has_kind}
 use Rattle.mode_file.proofs.Arrays.{tables_kind, array_seen}

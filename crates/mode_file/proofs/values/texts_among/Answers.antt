@@ -1,4 +1,3 @@
-use Rattle.std.proofs.Common.{◌≡◌}
 use Rattle.toml.specs.Data.{as_str}
 use Rattle.mode_file.proofs.Arrays.{found_next, found_none}
 use Rattle.mode_file.proofs.values.texts_among.Goals as goal
