@@ -1,0 +1,12 @@
+pub mod Numbers
+pub mod PlainMode
+pub mod TaskGraph
+pub mod Rounds
+pub mod RightSchedule
+pub mod OneHyperperiod
+pub mod ConstraintProblem
+pub mod OpenPrefix
+pub mod SearchCost
+pub mod PrintedSchedule
+pub mod RefutationTree
+pub mod ValidMode

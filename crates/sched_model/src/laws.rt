@@ -1,0 +1,1 @@
+//! Laws of schedules and of their search that other crates stand on.

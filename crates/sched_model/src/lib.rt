@@ -1,0 +1,9 @@
+//! Schedules of a mode: what a right one is, the constraints that the search solves, what the search costs, and what refutes a number of rounds.
+#![tactic(auto)]
+
+pub mod laws;
+mod schedule;
+mod trees;
+
+pub use schedule::Schedule;
+pub use trees::TreeNode;
