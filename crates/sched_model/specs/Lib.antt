@@ -8,5 +8,7 @@ pub mod ConstraintProblem
 pub mod OpenPrefix
 pub mod SearchCost
 pub mod PrintedSchedule
+pub mod ScheduleList
 pub mod RefutationTree
 pub mod ValidMode
+pub mod Laws

@@ -1,0 +1,57 @@
+-- Laws of schedules, of the constraint problem and of the search
+use Rattle.std.specs.Prelude.{◌≡◌, ℕ, ◌<◌, ◌≤◌, ◌↔◌, List, length, ℤ, pos}
+use Rattle.tick_num.specs.Differences.{MeetsAll}
+use Rattle.sched_model.specs.declared.schedule.Schedule.{Schedule}
+use Rattle.sched_model.specs.declared.trees.TreeNode.{TreeNode}
+use Rattle.sched_model.specs.PlainMode.{PlainMode}
+use Rattle.sched_model.specs.Rounds.{Carries}
+use Rattle.sched_model.specs.RightSchedule.{HasShape, RoundsFit, OffsetFits, MessageFits, RunsApart, AllServed, Timely, IsSchedule}
+use Rattle.sched_model.specs.OneHyperperiod.{ClassesApart, ServedOnce, EntriesFit}
+use Rattle.sched_model.specs.ConstraintProblem.{in_force}
+use Rattle.sched_model.specs.OpenPrefix.{FullOpen}
+use Rattle.sched_model.specs.SearchCost.{Visited, Cost, SpentAt}
+use Rattle.sched_model.specs.PrintedSchedule.{FirstList, schedule_of}
+use Rattle.sched_model.specs.ScheduleList.{HasList}
+use Rattle.sched_model.specs.RefutationTree.{Node, IsTree, IsOwnTree, ValidTree, OwnTree}
+use Rattle.sched_model.specs.ValidMode.{IsValid}
+
+-- a right schedule of r rounds exists exactly where a full list of choices is open
+abbrev pub ListsAreSchedules : Type 0
+ListsAreSchedules = (m : PlainMode) (r : ℕ) → IsValid m → 1 ≤ r → ((s : Schedule) × IsSchedule m r s) ↔ ((p : List ℤ) × FullOpen m r p)
+
+-- each right schedule is one of exactly one list of choices, and that list is open
+abbrev pub SchedulesHaveOneList : Type 0
+SchedulesHaveOneList = (m : PlainMode) (r : ℕ) (s : Schedule) → IsValid m → IsSchedule m r s →
+    (p : List ℤ) × FullOpen m r p × HasList m r s p × ((q : List ℤ) → HasList m r s q → q ≡ p)
+
+-- values that meet the constraints of a full open list, where the first round starts at 0, make a right schedule
+abbrev pub SolutionsAreSchedules : Type 0
+SolutionsAreSchedules = (m : PlainMode) (r : ℕ) (p : List ℤ) (v : ℕ → ℤ) → IsValid m → 1 ≤ r → FullOpen m r p → MeetsAll v (in_force m r p) → v 0 ≡ pos 0 →
+    IsSchedule m r (schedule_of m r p v)
+
+-- where the earlier clauses hold, the clauses on all of time are the tests of one hyperperiod: S6 for each two tasks, S7, and S8
+abbrev pub OneHyperperiodDecides : Type 0
+OneHyperperiodDecides = (m : PlainMode) (r : ℕ) (s : Schedule) → IsValid m → HasShape m r s → RoundsFit m s →
+    ((a : ℕ) → a < length m.tasks → OffsetFits m s a) → ((i : ℕ) → i < length m.messages → MessageFits m s i) →
+    ((a b : ℕ) → a < length m.tasks → b < length m.tasks → RunsApart m s a b ↔ ClassesApart m s a b)
+    × (AllServed m s ↔ ServedOnce m s)
+    × (((i g : ℕ) → i < length m.messages → 1 ≤ g → Carries m s i g → Timely m s i g) ↔ EntriesFit m s)
+
+-- where r rounds have a valid tree, they have no right schedule
+abbrev pub TreesRefute : Type 0
+TreesRefute = (m : PlainMode) (r : ℕ) → IsValid m → ((nodes : List Node) → IsTree m r nodes → (s : Schedule) → IsSchedule m r s → ⊥)
+    × ((nodes : List TreeNode) (refs : List ℕ) → ValidTree m r nodes refs → (s : Schedule) → IsSchedule m r s → ⊥)
+
+-- an own tree is a valid tree
+abbrev pub OwnTreesAreValid : Type 0
+OwnTreesAreValid = (m : PlainMode) (r : ℕ) → ((nodes : List Node) → IsOwnTree m r nodes → IsTree m r nodes)
+    × ((nodes : List TreeNode) (refs : List ℕ) → OwnTree m r nodes refs → ValidTree m r nodes refs)
+
+-- a number of rounds has one count of visited prefixes, a mode has one cost, and a budget is spent at one number of rounds
+abbrev pub CostsAreOne : Type 0
+CostsAreOne = (m : PlainMode) → ((r v w : ℕ) → Visited m r v → Visited m r w → v ≡ w) × ((v w : ℕ) → Cost m v → Cost m w → v ≡ w)
+    × ((budget r q : ℕ) → SpentAt m budget r → SpentAt m budget q → r ≡ q)
+
+-- one full open list is the first
+abbrev pub FirstListIsOne : Type 0
+FirstListIsOne = (m : PlainMode) (r : ℕ) (p q : List ℤ) → FirstList m r p → FirstList m r q → p ≡ q
