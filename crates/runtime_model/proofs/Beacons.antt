@@ -11,16 +11,14 @@ use Rattle.runtime_model.specs.LookingBack.{recall, runs, last_beacon}
 use Rattle.runtime_model.specs.Outcomes.{PlainEvent, advance, request, restart, Spot, Step, Outcome, beaconed, is_beacon, begun_run}
 use Rattle.runtime_model.specs.Packets.{packet}
 use Rattle.runtime_model.specs.Placement.{placed, own_start, ends_run, ending_run_at}
+use Rattle.runtime_model.specs.Laws.{AllRight}
+use Rattle.runtime_model.specs.Script.{opens_round}
 use Rattle.runtime_model.specs.Plans.{Plan, node_of, RightPlan}
 use Rattle.runtime_model.specs.System.{System, plan_at}
 use Rattle.runtime_model.proofs.Cycles.{none, has_beacon, entry_right, RightAt, key_order, key}
 use Rattle.runtime_model.proofs.Times.{natural_is, round_from_zero}
 use Rattle.runtime_model.proofs.OutRegisters.{Is, H}
 use Rattle.runtime_model.proofs.Spots.{Same, Within, Opens, Moves, moves, stands}
-
-abbrev pub opens_round : Action → Bool
-opens_round (beacon j) = true
-opens_round w = false
 
 -- the entry at place i of the last hyperperiod is a beacon
 abbrev pub BeaconAt : System → List Step → ℕ → Bool
@@ -149,16 +147,12 @@ seen_entry (task_ends a) e = absurd cc
 seen_entry (slot j i) e = absurd cc
 seen_entry (task_starts a) e = absurd cc
 
--- every mode that runs has a right plan
-abbrev pub AllRight : System → Type 0
-AllRight y = (es : List PlainEvent) → RightPlan y.nodes (plan_at y (last_spot (history y es)).hyper.mode)
-
 abbrev pub gap_of_mode : System → ℕ → ℕ
 gap_of_mode y md = (plan_at y md).mode.gap
 
 module _ (y : System) (right : AllRight y) where
   some_round : (es : List PlainEvent) → 0 < length (plan_at y (last_spot (history y es)).hyper.mode).schedule.starts
-  some_round es = let k = right es in omega (arith, k.right.some, k.right.starts)
+  some_round es = let k = right es in omega (arith, k.right.shape.some, k.right.shape.starts)
 
   some : SomeEntries y
   some es = let w = beacon_place y (last_spot (history y es)).hyper.mode (right es) 0 (some_round es) in omega (arith, w.1.0)

@@ -1,8 +1,8 @@
--- The host's calls against the timeline_of
+-- The host's calls against the timeline
 use Rattle.std.proofs.Common.{◌≡◌, ℕ, zero, suc, ◌+◌, ◌<◌, ◌≤◌, Bool, true, false, cond, not, eqb, ltb, List, [], ◌∷◌, ◌++◌, refl, sym, ◌∙◌, ap, subst, arith, ◌⊎◌, inl, inr, ⊎_elim}
 use Rattle.std.specs.Prelude.{◌≢◌, Option, Some, None, nat_eq, nat_lt}
 use Rattle.std.proofs.lemmas.Bool.{cond_both, eqb-true, eqb-false}
-use Rattle.runtime_model.specs.HostCalls.{HostCall, request_call, next_beacon_call, end_round_call, CallState, call_state, call_step, MayCall, AllMay, waiting_in, PlainHost, host_of, host_after, phase_taken, begun_host, turned_host, after_call}
+use Rattle.runtime_model.specs.HostCalls.{latest_of, rounds_in, HostCall, request_call, next_beacon_call, end_round_call, CallState, call_state, call_step, MayCall, AllMay, waiting_in, PlainHost, host_of, host_after, phase_taken, begun_host, turned_host, after_call}
 use Rattle.runtime_model.specs.Laws.{HostsKeepTime}
 use Rattle.runtime_model.specs.Timeline.{PlainPhase, steady, warn, drain, drains, Hyperperiod, Timeline, Mark, asked, begins, ended, timeline_of, untaken, request_in, phase_at_beacon, decided, follows, fresh}
 
@@ -35,14 +35,14 @@ begun_line h hs = line (record h { begun = true; phase = phase_at_beacon h hs })
 
 -- the phase that the latest request gives, and what waits after it
 decides : (r mode : ℕ) (opening : Bool) (xs : List ℕ) →
-    begun_host (host mode r steady opening (head_of xs) false)
-      ≡ host mode r (decided mode xs) opening (head_of (cond (drains (decided mode xs)) xs [])) true
+    begun_host (host mode r steady opening (latest_of xs) false)
+      ≡ host mode r (decided mode xs) opening (latest_of (cond (drains (decided mode xs)) xs [])) true
 decides r mode opening [] = refl
 decides r mode opening (x ∷ xs) = by_test (nat_eq x mode)
   where
     by_test : (b : Bool) →
         host mode r (cond b steady (warn x)) opening None true
-          ≡ host mode r (cond b steady (warn x)) opening (head_of (cond (drains (cond b steady (warn x))) (x ∷ xs) [])) true
+          ≡ host mode r (cond b steady (warn x)) opening (latest_of (cond (drains (cond b steady (warn x))) (x ∷ xs) [])) true
     by_test true = refl
     by_test false = refl
 
@@ -99,12 +99,12 @@ later_fits : (r : ℕ) (i : Bool) (h : Hyperperiod) → (r ≡ 1 → ⊥) → Fi
 later_fits r i h e (inl x) = x.0
 later_fits r i h e (inr x) = absurd (e x.1)
 
-abbrev Keeps : (ℕ → ℕ) → CallState → HostCall → Type 0
+abbrev Keeps : List ℕ → CallState → HostCall → Type 0
 Keeps rounds s c = let n = call_step rounds c s in
     (after_call rounds (host_of (timeline_of s.marks) s.round s.inside) c ≡ host_of (timeline_of n.marks) n.round n.inside) × Fits n.round n.inside (timeline_of n.marks).last
 
 -- by whether the round is the first
-beacons : (rounds : ℕ → ℕ) (s : CallState) → s.inside ≡ false → Fits s.round s.inside (last_of s) → (b : Bool) → nat_eq s.round 1 ≡ b →
+beacons : (rounds : List ℕ) (s : CallState) → s.inside ≡ false → Fits s.round s.inside (last_of s) → (b : Bool) → nat_eq s.round 1 ≡ b →
     let t = timeline_of s.marks in
     let u = timeline_of (cond b (begins ∷ s.marks) s.marks) in
     (cond b (begun_host (host_of t s.round s.inside)) (record (host_of t s.round s.inside) { inside = true }) ≡ host_of u s.round true) × Fits s.round true u.last
@@ -112,7 +112,7 @@ beacons rounds s out f true e = let w = outside_fits s.round s.inside (last_of s
     (begins_for s.round (last_of s) (timeline_of s.marks).before s.inside out w.0 w.1, inl (refl, inl refl))
 beacons rounds s out f false e = (refl, inl (later_fits s.round s.inside (last_of s) (eqb-false s.round 1 e) f, inl refl))
 
-rounds_end : (rounds : ℕ → ℕ) (s : CallState) → 1 ≤ s.round → s.inside ≡ true → Fits s.round s.inside (last_of s) → (b : Bool) →
+rounds_end : (rounds : List ℕ) (s : CallState) → 1 ≤ s.round → s.inside ≡ true → Fits s.round s.inside (last_of s) → (b : Bool) →
     let t = timeline_of s.marks in
     let n = cond {A = CallState} b (record { marks = s.marks; round = suc s.round; inside = false }) (record { marks = ended ∷ s.marks; round = 1; inside = false }) in
     (cond b (record (host_of t s.round s.inside) { round = suc s.round; inside = false }) (turned_host (host_of t s.round s.inside) t.last.phase) ≡ host_of (timeline_of n.marks) n.round n.inside)
@@ -120,24 +120,24 @@ rounds_end : (rounds : ℕ → ℕ) (s : CallState) → 1 ≤ s.round → s.insi
 rounds_end rounds s one is f true = (refl, inl (inside_fits s.round s.inside (last_of s) is f, inr (λ e. omega (arith, e, one))))
 rounds_end rounds s one is f false = (ends_for s.round (last_of s) (timeline_of s.marks).before s.inside (inside_fits s.round s.inside (last_of s) is f), follows_fits (last_of s).mode (last_of s).phase)
 
-step : (rounds : ℕ → ℕ) (s : CallState) (c : HostCall) → 1 ≤ s.round → MayCall c s → Fits s.round s.inside (last_of s) → Keeps rounds s c
+step : (rounds : List ℕ) (s : CallState) (c : HostCall) → 1 ≤ s.round → MayCall rounds c s → Fits s.round s.inside (last_of s) → Keeps rounds s c
 step rounds s (request_call m) one may f =
     let h = last_of s in
     (asks s.round s.inside m h.mode h.opening h.phase h.begun h.early h.late (timeline_of s.marks).before, request_fits s.round s.inside m h.mode h.opening h.phase h.begun h.early h.late f)
 step rounds s next_beacon_call one may f = beacons rounds s may f (nat_eq s.round 1) refl
-step rounds s end_round_call one may f = rounds_end rounds s one may f (nat_lt s.round (rounds (last_of s).mode))
+step rounds s end_round_call one may f = rounds_end rounds s one may f (nat_lt s.round (rounds_in rounds (last_of s).mode))
 
-some_round : (rounds : ℕ → ℕ) (cs : List HostCall) → 1 ≤ (call_state rounds cs).round
+some_round : (rounds : List ℕ) (cs : List HostCall) → 1 ≤ (call_state rounds cs).round
 some_round rounds [] = omega arith
 some_round rounds (request_call m ∷ cs) = some_round rounds cs
 some_round rounds (next_beacon_call ∷ cs) = some_round rounds cs
-some_round rounds (end_round_call ∷ cs) = by_test (nat_lt (call_state rounds cs).round (rounds (last_of (call_state rounds cs)).mode))
+some_round rounds (end_round_call ∷ cs) = by_test (nat_lt (call_state rounds cs).round (rounds_in rounds (last_of (call_state rounds cs)).mode))
   where
     by_test : (b : Bool) → 1 ≤ (cond {A = CallState} b (record { marks = (call_state rounds cs).marks; round = suc (call_state rounds cs).round; inside = false }) (record { marks = ended ∷ (call_state rounds cs).marks; round = 1; inside = false })).round
     by_test true = omega arith
     by_test false = omega arith
 
-fits : (rounds : ℕ → ℕ) (cs : List HostCall) → AllMay rounds cs → Fits (call_state rounds cs).round (call_state rounds cs).inside (last_of (call_state rounds cs))
+fits : (rounds : List ℕ) (cs : List HostCall) → AllMay rounds cs → Fits (call_state rounds cs).round (call_state rounds cs).inside (last_of (call_state rounds cs))
 fits rounds [] a = inr (refl, refl, refl, refl)
 fits rounds (c ∷ cs) a = (step rounds (call_state rounds cs) c (some_round rounds cs) a.0 (fits rounds cs a.1)).1
 

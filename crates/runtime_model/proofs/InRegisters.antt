@@ -6,6 +6,7 @@ use Rattle.std.proofs.lemmas.Bool.{cases_Bool, cases_lt, cond-true, cond-false, 
 use Rattle.sched_model.specs.Numbers.{has, below}
 use Rattle.sched_model.specs.PlainMode.{PlainMode, hyper, task_at, message_at}
 use Rattle.sched_model.specs.Rounds.{round_start, task_start, opens, closes}
+use Rattle.runtime_model.proofs.TaskTimes.{TaskFits}
 use Rattle.runtime_model.specs.Entries.{Entry, Action, task_ends, beacon, slot, task_starts}
 use Rattle.runtime_model.specs.History.{history, step_of, last_spot, next_place, spot_next, entries, entry_at, performed, start_or_not, finished_or_not, sent_or_not}
 use Rattle.runtime_model.specs.Inputs.{inputs}
@@ -151,7 +152,7 @@ some_all f g x z v st (d ∷ ds) h k e = some_step (runs v (d ∷ ds) && nat_eq 
 module _ (y : System) (md b i : ℕ) (ok : RightPlan y.nodes (plan_at y md)) (il : i < length (plan_at y md).mode.messages) (to : Contains (message_at (plan_at y md).mode i).to b) where
   consumer : b < length (plan_at y md).mode.tasks
   consumer =
-      let a = ok.valid.sender i il in
+      let a = ok.valid.producer i il in
       (ok.valid.edges a.0 b (message_edge (plan_at y md).mode i a.0 b il a.1 to)).to
 
   fit : TaskFits y.nodes (plan_at y md) b
@@ -185,7 +186,7 @@ module _ (y : System) (md b i : ℕ) (ok : RightPlan y.nodes (plan_at y md)) (il
       let w = slot_window y.nodes p ok s.turn f.0 i s.hyper.opening s.hyper.phase c now.turn (calm s.hyper.opening (drains s.hyper.phase) now.opening) f.2 in
       let at = natural_is (round_start p.schedule f.0) (round_from_zero y.nodes p ok f.0 c.0) in
       let at' = ap (λ (z : ℕ). pos z) r.1 in
-      let per = ap (λ z. l * z) (ok.valid.taker_app i b il to).0 in
+      let per = ap (λ z. l * z) (ok.valid.consumer_app i b il to).0 in
       let num = ap (λ z. z * (message_at p.mode i).period) f.3 in
       record {
         round = f.0; tick = g.tick;
@@ -304,7 +305,7 @@ module _ (y : System) (md b i : ℕ) (ok : RightPlan y.nodes (plan_at y md)) (il
           let before = time_before y md f.0 f.1 f.2.tick s.turn s.index u (slot f.2.round i) (task_starts b) f.2.is is (step_on y ds s f.0 f.1 mv same f.3) in
           let o = offset_is y.nodes p ok b consumer in
           ⊎_elim
-            (λ (more : k < l). absurd (omega (arith, ints, before, f.2.after, t, o, (ok.right.s4 i il).next b to, turns_apart (P p b) k l more, (ok.valid.taker_app i b il to).0)))
+            (λ (more : k < l). absurd (omega (arith, ints, before, f.2.after, t, o, (ok.right.s4 i il).next b to, turns_apart (P p b) k l more, (ok.valid.consumer_app i b il to).0)))
             (λ (le : l ≤ k). omega (arith, late, le))
             (cases_lt k l))
         (cases_lt l k)
@@ -395,7 +396,7 @@ module _ (y : System) (md b i : ℕ) (ok : RightPlan y.nodes (plan_at y md)) (il
               ⊎_elim
                 (λ (l : s.turn * H y md + h.tick < n * H y md + u).
                   let gap = periods_apart s.turn s.index h.tick n g u here is l in
-                  absurd (omega (arith, ints, gap, after, w.2.after, t, o, (ok.right.s4 i il).next b to, (ok.valid.taker_app i b il to).0)))
+                  absurd (omega (arith, ints, gap, after, w.2.after, t, o, (ok.right.s4 i il).next b to, (ok.valid.consumer_app i b il to).0)))
                 (λ (l : n * H y md + u ≤ s.turn * H y md + h.tick). one_start s.turn n s.index g h.tick u here is (omega (arith, late, l)) now)
                 (cases_lt (s.turn * H y md + h.tick) (n * H y md + u)))
             (λ (miss : (last_in v b i d.out ≡ None) × (recall v st (last_in v b i) ds ≡ Some None)).

@@ -12,7 +12,8 @@ use Rattle.runtime_model.specs.System.{System, plan_at}
 use Rattle.runtime_model.specs.Timeline.{PlainPhase, steady, warn, drain, drains, Hyperperiod, Timeline, Mark, asked, begins, ended, timeline_of, untaken, request_in, phase_at_beacon, decided, follows, fresh, named}
 use Rattle.runtime_model.proofs.Cycles.{none}
 use Rattle.runtime_model.proofs.Spots.{Same, Within, Opens, Moves, moves, stands}
-use Rattle.runtime_model.proofs.Beacons.{outcome_is, seen_entry, opens_round}
+use Rattle.runtime_model.proofs.Beacons.{outcome_is, seen_entry}
+use Rattle.runtime_model.specs.Script.{opens_round}
 
 -- a phase that names the mode itself is steady
 abbrev pub NamesOther : Hyperperiod → Type 0

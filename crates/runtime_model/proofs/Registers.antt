@@ -5,6 +5,7 @@ use Rattle.std.proofs.lemmas.Bool.{cases_Bool, cases_lt, cond-true, cond-false, 
 use Rattle.std.proofs.lemmas.Nat.{div-add-mod', mod_below, div-mul-add, le-div}
 use Rattle.std.proofs.Math.Nat.{mul-le-mul_right}
 use Rattle.sched_model.specs.PlainMode.{PlainMode, hyper, task_at, message_at}
+use Rattle.runtime_model.proofs.TaskTimes.{TaskFits}
 use Rattle.runtime_model.specs.Entries.{Entry, Action, task_ends, beacon, slot, task_starts, cycle, due_start, due_end}
 use Rattle.runtime_model.specs.History.{history, step_of, last_spot, next_place, spot_next, entries, entry_at, no_entry, performed, start_or_not, finished_or_not, sent_or_not}
 use Rattle.runtime_model.specs.Inputs.{inputs}

@@ -5,6 +5,7 @@ use Rattle.std.proofs.lemmas.Int.{ints}
 use Rattle.std.proofs.lemmas.Bool.{cases_Bool, cond-true, cond-false, eqb-true, eq-eqb, and_parts}
 use Rattle.sched_model.specs.PlainMode.{PlainMode, hyper, task_at, message_at}
 use Rattle.sched_model.specs.Rounds.{round_start, task_start, opens, closes}
+use Rattle.runtime_model.proofs.TaskTimes.{TaskFits}
 use Rattle.runtime_model.specs.Entries.{Entry, Action, slot}
 use Rattle.runtime_model.specs.History.{history, last_spot, spot_next, entries, entry_at}
 use Rattle.runtime_model.specs.Laws.{RegistersHold}
@@ -109,7 +110,7 @@ module _ (y : System) (es : List PlainEvent) (j i : ℕ) (ok : RightPlan y.nodes
       let t = entry_at y s in
       let st = moves y ds (stands y es) in
       let now = stands y (advance 0 ∷ es) in
-      let b = ok.valid.taker i c.1 in
+      let b = ok.valid.consumer i c.1 in
       let e = ok.valid.edges a b.0 (message_edge p.mode i a b.0 c.1 in_from b.1) in
       let fit = task_fits y.nodes p ok a e.from in
       let some : 1 ≤ length (entries y md) = let w = start_place y md a fit 0 in omega (arith, w.3.0) in
@@ -121,7 +122,7 @@ module _ (y : System) (es : List PlainEvent) (j i : ℕ) (ok : RightPlan y.nodes
       let o = offset_is y.nodes p ok a e.from in
       let at = natural_is (round_start p.schedule j) (round_from_zero y.nodes p ok j c.0) in
       let at' = ap (λ (z : ℕ). pos z) r.1 in
-      let app = e.period ∙ (ok.valid.taker_app i b.0 c.1 b.1).0 in
+      let app = e.period ∙ (ok.valid.consumer_app i b.0 c.1 b.1).0 in
       let per = ap (λ z. k * z) app in
       recall_value (node_of p a) s.stay a k ds (λ l x h.
         full_is_current y md a fit some es t.tick k l (slot j i) x refl is refl h

@@ -4,17 +4,21 @@ use Rattle.std.specs.Int.{int_div_euclid}
 use Rattle.std.proofs.lemmas.Int.{ints}
 use Rattle.std.proofs.lemmas.Nat.{mod_below, mod-mul-add, div-mul-add}
 use Rattle.std.proofs.Math.Nat.{mul-le-mul_right, mul-le-mul_left}
+use Rattle.std.proofs.lemmas.List.{get_or-map, length-map}
+use Rattle.std.proofs.lemmas.List.Elements.{All-get_or, All-contains}
+use Rattle.std.specs.Prelude.{All}
 use borrow.Author.Differences.{up, down, same_in}
 use Rattle.std.proofs.lemmas.Bool.{cases_lt, eqb-true, eqb-false}
 use Rattle.tick_num.proofs.Floor.{floor_low, floor_high, sum-times}
 use Rattle.sched_model.proofs.Graph.{edge_message, message_edge, never_late, contains_has}
+use Rattle.runtime_model.proofs.TaskTimes.{TaskFits}
 use Rattle.runtime_model.proofs.Cycles.{RightAt}
 use Rattle.sched_model.proofs.Hyper.{period_divides, hyper_some}
 use Rattle.std.specs.Prelude.{nat_eq, cond, not, neg_ℤ}
 use Rattle.sched_model.specs.ConstraintProblem.{latest}
 use Rattle.sched_model.specs.Numbers.{has, natural}
 use Rattle.sched_model.specs.PlainMode.{PlainMode, hyper, task_at, message_at, PlainMessage, no_message}
-use Rattle.sched_model.specs.RightSchedule.{IsSchedule}
+use Rattle.sched_model.specs.RightSchedule.{IsSchedule, IsMessage}
 use Rattle.sched_model.specs.Rounds.{round_start, task_start, opens, closes, start, Carries, InWindow}
 use Rattle.sched_model.specs.TaskGraph.{IsEdge}
 use Rattle.sched_model.specs.declared.schedule.Schedule.{Schedule}
@@ -86,10 +90,10 @@ module _ (nodes : ℕ) (p : Plan) (ok : RightPlan nodes p) where
         period = ok.valid.periods (task_at p.mode a).period c;
         turns = hyper p.mode / (task_at p.mode a).period;
         whole = period_divides p.mode (task_at p.mode a).period (ok.valid.periods (task_at p.mode a).period c) c;
-        wcet = ok.valid.wcet a l;
-        short = ok.wcet a l;
+        wcet = (ok.valid.wcet a l).0;
+        short = (ok.valid.wcet a l).1;
         late = omega (arith, ints, late, offset_is a l);
-        deadline = ok.deadline a l;
+        deadline = ok.valid.deadline a l;
       }
 
   pub round_from_zero : (j : ℕ) → j < length p.schedule.starts → pos 0 ≤ℤ round_start p.schedule j
@@ -98,9 +102,9 @@ module _ (nodes : ℕ) (p : Plan) (ok : RightPlan nodes p) where
 
   opens_from_zero : (i : ℕ) → i < length p.mode.messages → pos 0 ≤ℤ opens p.schedule i
   opens_from_zero i l =
-      let a = ok.valid.sender i l in
-      let e = message_edge p.mode i a.0 (ok.valid.taker i l).0 l a.1 (ok.valid.taker i l).1 in
-      omega (arith, ints, (ok.right.s3 a.0 (ok.valid.edges a.0 (ok.valid.taker i l).0 e).from).from_zero, (ok.right.s4 i l).sent a.0 a.1)
+      let a = ok.valid.producer i l in
+      let e = message_edge p.mode i a.0 (ok.valid.consumer i l).0 l a.1 (ok.valid.consumer i l).1 in
+      omega (arith, ints, (ok.right.s3 a.0 (ok.valid.edges a.0 (ok.valid.consumer i l).0 e).from).from_zero, (ok.right.s4 i l).sent a.0 a.1)
 
   message_turns : (i : ℕ) → i < length p.mode.messages → (1 ≤ (message_at p.mode i).period) × (hyper p.mode ≡ hyper p.mode / (message_at p.mode i).period * (message_at p.mode i).period)
   message_turns i l = let c = ok.valid.message_period i l in let one = ok.valid.periods (message_at p.mode i).period c in (one, period_divides p.mode (message_at p.mode i).period one c)
@@ -127,7 +131,7 @@ module _ (nodes : ℕ) (p : Plan) (ok : RightPlan nodes p) where
       mul_one n h l = mul-le-mul_left n l
 
   narrow : (i : ℕ) → i < length p.mode.messages → closes p.schedule i ≤ℤ (opens p.schedule i +ℤ pos (message_at p.mode i).period)
-  narrow i l = let a = ok.valid.sender i l in omega (arith, ints, (ok.right.s4 i l).sent a.0 a.1, (ok.right.s4 i l).kept a.0 a.1)
+  narrow i l = let a = ok.valid.producer i l in omega (arith, ints, (ok.right.s4 i l).sent a.0 a.1, (ok.right.s4 i l).kept a.0 a.1)
 
   -- the release is a release
   pub is_release : (j i : ℕ) → Carried p j i → IsRelease p j i (release p j i)
@@ -154,12 +158,12 @@ module _ (nodes : ℕ) (p : Plan) (ok : RightPlan nodes p) where
 
   last_closes : (i : ℕ) → i < length p.mode.messages → closes p.schedule i <ℤ pos ((message_at p.mode i).period + hyper p.mode)
   last_closes i l =
-      let b = ok.valid.taker i l in
-      let a = ok.valid.sender i l in
+      let b = ok.valid.consumer i l in
+      let a = ok.valid.producer i l in
       let is = (ok.valid.edges a.0 b.0 (message_edge p.mode i a.0 b.0 l a.1 b.1)).to in
       let late = never_late p.mode ok.valid (task_start p.schedule) rises (λ f lf e. (ok.right.s3 f lf).early e) ok.right.s5 b.0 is in
-      let app = ok.valid.taker_app i b.0 l b.1 in
-      omega (arith, ints, (ok.right.s4 i l).taken b.0 b.1, late, ok.valid.wcet b.0 is, ok.deadline b.0 is, app)
+      let app = ok.valid.consumer_app i b.0 l b.1 in
+      omega (arith, ints, (ok.right.s4 i l).taken b.0 b.1, late, (ok.valid.wcet b.0 is).0, ok.valid.deadline b.0 is, app)
 
   -- the window of a placed slot
   pub record SlotWindow (n j i : ℕ) (phase : PlainPhase) : Type 0 where
@@ -209,8 +213,11 @@ module _ (nodes : ℕ) (p : Plan) (ok : RightPlan nodes p) where
   -- a slot of the cycle is carried
   pub slot_carried : (u j i : ℕ) → RightAt p u (slot j i) → Carried p j i
   slot_carried u j i r =
-      let w = ok.named j r.2.0 r.2.1 in
-      let k = place_is 0 p.mode.messages r.2.0 w.0 w.1 w.2 in
+      let own = All-contains (IsMessage p.mode) (get_or p.schedule.tables j []) r.2.0 (All-get_or (λ table. All (IsMessage p.mode) table) p.schedule.tables j [] (omega (arith, r.0, ok.right.shape.starts, ok.right.shape.tables)) ok.right.shape.numbers) r.2.1 in
+      let number_of = λ (msg : PlainMessage). msg.number in
+      let place : own.0 < length p.mode.messages = omega (arith, own.1, length-map p.mode.messages number_of) in
+      let is = sym (get_or-map number_of p.mode.messages own.0 no_message r.2.0 place) ∙ own.2 in
+      let k = place_is 0 p.mode.messages r.2.0 own.0 place is in
       let same : k.0 ≡ i = omega (arith, r.2.2, k.1) in
       (r.0, subst (λ z. z < length p.mode.messages) same k.2,
         subst (λ z. has (get_or p.schedule.tables j []) (message_at p.mode z).number ≡ true) same (subst (λ z. has (get_or p.schedule.tables j []) z ≡ true) (sym k.3) (contains_has (get_or p.schedule.tables j []) r.2.0 r.2.1)))
