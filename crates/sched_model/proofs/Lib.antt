@@ -18,7 +18,8 @@ pub mod Forward
 pub mod Values
 pub mod Sums
 pub mod Backward
-pub mod Finite
+pub mod FirstInstances
+pub mod OneTurn
 pub mod OneList
 pub mod Fronts
 pub mod Refutations

@@ -79,7 +79,7 @@ place_of s t o1 o2 p q e f i j h =
 
 -- ---- one place at most
 -- a product is below the next only where the number is
-at_most_from_times : (z y : ℤ) (g : ℕ) → (z *ℤ pos g) <ℤ ((y +ℤ pos 1) *ℤ pos g) → z ≤ℤ y
+pub at_most_from_times : (z y : ℤ) (g : ℕ) → (z *ℤ pos g) <ℤ ((y +ℤ pos 1) *ℤ pos g) → z ≤ℤ y
 at_most_from_times z y g h =
     ⊎_elim
     (λ (less : up y + down z < up z + down y).

@@ -1,10 +1,12 @@
 -- Laws of schedules, of the constraint problem and of the search
-use Rattle.std.specs.Prelude.{◌≡◌, ℕ, ◌≤◌, ◌↔◌, List, ℤ, pos}
+use Rattle.std.specs.Prelude.{◌≡◌, ℕ, ◌<◌, ◌≤◌, ◌↔◌, List, length, ℤ, pos}
 use Rattle.tick_num.specs.Differences.{MeetsAll}
 use Rattle.sched_model.specs.declared.schedule.Schedule.{Schedule}
 use Rattle.sched_model.specs.declared.trees.TreeNode.{TreeNode}
 use Rattle.sched_model.specs.PlainMode.{PlainMode}
-use Rattle.sched_model.specs.RightSchedule.{IsSchedule}
+use Rattle.sched_model.specs.Rounds.{Carries}
+use Rattle.sched_model.specs.RightSchedule.{HasShape, RoundsFit, OffsetFits, MessageFits, RunsApart, AllServed, Timely, IsSchedule}
+use Rattle.sched_model.specs.OneHyperperiod.{ClassesApart, ServedOnce, EntriesFit}
 use Rattle.sched_model.specs.ConstraintProblem.{in_force}
 use Rattle.sched_model.specs.OpenPrefix.{FullOpen}
 use Rattle.sched_model.specs.SearchCost.{Visited, Cost, SpentAt}
@@ -26,6 +28,14 @@ SchedulesHaveOneList = (m : PlainMode) (r : ℕ) (s : Schedule) → IsValid m �
 abbrev pub SolutionsAreSchedules : Type 0
 SolutionsAreSchedules = (m : PlainMode) (r : ℕ) (p : List ℤ) (v : ℕ → ℤ) → IsValid m → 1 ≤ r → FullOpen m r p → MeetsAll v (in_force m r p) → v 0 ≡ pos 0 →
     IsSchedule m r (schedule_of m r p v)
+
+-- where the earlier clauses hold, the clauses on all of time are the tests of one hyperperiod: S6 for each two tasks, S7, and S8
+abbrev pub OneHyperperiodDecides : Type 0
+OneHyperperiodDecides = (m : PlainMode) (r : ℕ) (s : Schedule) → IsValid m → HasShape m r s → RoundsFit m s →
+    ((a : ℕ) → a < length m.tasks → OffsetFits m s a) → ((i : ℕ) → i < length m.messages → MessageFits m s i) →
+    ((a b : ℕ) → a < length m.tasks → b < length m.tasks → RunsApart m s a b ↔ ClassesApart m s a b)
+    × (AllServed m s ↔ ServedOnce m s)
+    × (((i g : ℕ) → i < length m.messages → 1 ≤ g → Carries m s i g → Timely m s i g) ↔ EntriesFit m s)
 
 -- where r rounds have a valid tree, they have no right schedule
 abbrev pub TreesRefute : Type 0

@@ -1,6 +1,6 @@
 //! Laws of schedules and of their search that other crates stand on.
 
-ghost use Rattle.sched_model.specs.Laws.{CostsAreOne, FirstListIsOne, ListsAreSchedules, OwnTreesAreValid, SchedulesHaveOneList, SolutionsAreSchedules, TreesRefute};
+ghost use Rattle.sched_model.specs.Laws.{CostsAreOne, FirstListIsOne, ListsAreSchedules, OneHyperperiodDecides, OwnTreesAreValid, SchedulesHaveOneList, SolutionsAreSchedules, TreesRefute};
 
 /// A valid mode has a right schedule of some rounds exactly where a full list of choices is open.
 pub fn lists_are_schedules()
@@ -15,6 +15,12 @@ pub fn schedules_have_one_list()
 /// Every solution of a full open list's constraints, with the first round at 0, makes a right schedule of a valid mode.
 pub fn solutions_are_schedules()
     ensures { SolutionsAreSchedules }
+{}
+
+/// For a schedule of a valid mode that has the right shape and keeps S1, S3 and S4, the clauses S6, S7 and S8 on all of time
+/// are finite tests of one hyperperiod.
+pub fn one_hyperperiod_decides()
+    ensures { OneHyperperiodDecides }
 {}
 
 /// A valid tree shows that a valid mode has no right schedule of so many rounds.
