@@ -1,11 +1,11 @@
 -- Entering the tables of a mode file: their rules, and what they say
-use Rattle.std.specs.Prelude.{ℕ, ℤ, pos, List, [], ◌∷◌, Bool, true, false, not, Option, Some, None, if◌then◌else◌, map, filter, fold, codes, option_map, unwrap_or}
+use Rattle.std.specs.Prelude.{ℕ, ℤ, pos, List, [], ◌∷◌, Bool, true, false, not, Option, Some, None, if◌then◌else◌, map, filter, fold, codes, option_map, unwrap_or, is_some}
 use Rattle.std.specs.List.{list_any, list_all, filter_map}
 use Rattle.std.specs.Str.{bytes_eq}
 use Rattle.std.specs.Ordering.{nat_cmp, is_lt}
-use Rattle.std.specs.Option.{option_and_then}
+use Rattle.std.specs.Option.{option_and_then, option_map_or}
 use Rattle.std.specs.Cmp.Lexicographic.{slice_cmp}
-use Rattle.toml.specs.Data.{Data, string, integer, array, table, Items, no_items, item, Members, no_members, member, get_member, as_str, as_integer, as_array, as_table}
+use Rattle.toml.specs.Data.{Data, string, integer, array, Items, no_items, item, Members, no_members, member, get_member, as_str, as_integer, as_array, as_table}
 use Rattle.app_graph.specs.declared.keys.Key.{Key}
 use Rattle.app_graph.specs.declared.keys.Key.TheVariants.{KSlots, KRound, KGap, KHost, KNodes, KMode, KName, KApp, KPeriod, KDeadline, KTask, KMessage, KNode, KWcet, KBody, KFrom, KTo}
 use Rattle.app_graph.specs.declared.raw.RawTask.{RawTask}
@@ -35,23 +35,15 @@ keys (member key d ms) = key ∷ keys ms
 pub data Kind : Type 0 where
   Integer : Kind
   Text : Kind
-  Texts : Kind
-  Tables : Kind
-
-abbrev pub is_text : Data → Bool
-is_text (string s) = true
-is_text _ = false
-
-abbrev pub is_table : Data → Bool
-is_table (table ms) = true
-is_table _ = false
+  TextArray : Kind
+  TableArray : Kind
 
 -- an array has a kind where each of its items has
 abbrev pub has_kind : Kind → Data → Bool
 has_kind Integer (integer z) = true
 has_kind Text (string s) = true
-has_kind Texts (array ds) = list_all is_text (items ds)
-has_kind Tables (array ds) = list_all is_table (items ds)
+has_kind TextArray (array ds) = list_all (λ d. is_some (as_str d)) (items ds)
+has_kind TableArray (array ds) = list_all (λ d. is_some (as_table d)) (items ds)
 has_kind _ _ = false
 
 -- ---- the rules on one table's keys
@@ -96,14 +88,25 @@ text_or other ms key = unwrap_or (option_and_then as_str (get_member (word key) 
 abbrev pub text_at : Members → Key → List ℕ
 text_at ms key = text_or [] ms key
 
+-- the items of an array, and none of another value
+abbrev pub array_items : Data → List Data
+array_items d = items (unwrap_or (as_array d) no_items)
+
 abbrev pub items_at : Members → Key → List Data
-items_at ms key = items (unwrap_or (option_and_then as_array (get_member (word key) ms)) no_items)
+items_at ms key = option_map_or array_items (get_member (word key) ms) []
+
+-- the texts among the values, and the tables among them
+abbrev pub texts_in : List Data → List (List ℕ)
+texts_in ds = filter_map as_str ds
+
+abbrev pub tables_in : List Data → List Members
+tables_in ds = filter_map as_table ds
 
 abbrev pub texts_at : Members → Key → List (List ℕ)
-texts_at ms key = filter_map as_str (items_at ms key)
+texts_at ms key = texts_in (items_at ms key)
 
 abbrev pub tables_at : Members → Key → List Members
-tables_at ms key = filter_map as_table (items_at ms key)
+tables_at ms key = tables_in (items_at ms key)
 
 -- ---- what the tables say
 
@@ -145,24 +148,24 @@ task_rules ms = first_of (
 
 abbrev pub message_rules : Members → Rule FileFault
 message_rules ms = first_of (
-    needs ms KName Text ∷ needs ms KFrom Texts ∷ needs ms KTo Texts
+    needs ms KName Text ∷ needs ms KFrom TextArray ∷ needs ms KTo TextArray
     ∷ has_only ms (KName ∷ KFrom ∷ KTo ∷ []) ∷ [])
 
 abbrev pub app_rules : Members → Rule FileFault
 app_rules ms = first_of (
-    needs ms KName Text ∷ needs ms KPeriod Integer ∷ needs ms KDeadline Integer ∷ needs ms KTask Tables
-    ∷ may_have ms KMessage Tables
+    needs ms KName Text ∷ needs ms KPeriod Integer ∷ needs ms KDeadline Integer ∷ needs ms KTask TableArray
+    ∷ may_have ms KMessage TableArray
     ∷ has_only ms (KName ∷ KPeriod ∷ KDeadline ∷ KTask ∷ KMessage ∷ [])
     ∷ each task_rules (tables_at ms KTask) ∷ each message_rules (tables_at ms KMessage) ∷ [])
 
 abbrev pub mode_rules : Members → Rule FileFault
 mode_rules ms = first_of (
-    needs ms KName Text ∷ needs ms KApp Tables
+    needs ms KName Text ∷ needs ms KApp TableArray
     ∷ has_only ms (KName ∷ KApp ∷ [])
     ∷ each app_rules (tables_at ms KApp) ∷ [])
 
 abbrev pub table_rules : Members → Rule FileFault
 table_rules ms = first_of (
-    needs ms KSlots Integer ∷ needs ms KRound Integer ∷ needs ms KGap Integer ∷ needs ms KHost Text ∷ needs ms KNodes Texts ∷ needs ms KMode Tables
+    needs ms KSlots Integer ∷ needs ms KRound Integer ∷ needs ms KGap Integer ∷ needs ms KHost Text ∷ needs ms KNodes TextArray ∷ needs ms KMode TableArray
     ∷ has_only ms (KSlots ∷ KRound ∷ KGap ∷ KHost ∷ KNodes ∷ KMode ∷ [])
     ∷ each mode_rules (tables_at ms KMode) ∷ [])

@@ -1,8 +1,8 @@
 //! What is wrong with a mode file.
 
 use crate::spelling::is_name;
-use app_graph::{Key, Name};
-use std::alloc::{AllocError, Global};
+use app_graph::{GraphFault, Key, Name};
+use std::alloc::{AllocError, AllocFailed, Global};
 use std::marker::Model;
 
 /// A key as a fault tells it: the key where it is spelled as a name, and `?` otherwise. A contract sees its bytes.
@@ -70,4 +70,46 @@ pub enum FileFault {
     TooMany(Key),
     /// Memory ran out.
     Memory,
+}
+
+impl From<AllocError> for FileFault {
+    ghost use Rattle.std.specs.Prelude.{◌≡◌};
+    ghost use Rattle.mode_file.specs.declared.faults.FileFault.TheVariants.{Memory};
+
+    ghost from_gives = { λ _ fault. fault ≡ Memory };
+
+    fn from(_error: AllocError) -> Self {
+        FileFault::Memory
+    }
+}
+
+impl<T: Drop> From<AllocFailed<T>> for FileFault {
+    ghost use Rattle.std.specs.Prelude.{◌≡◌};
+    ghost use Rattle.mode_file.specs.declared.faults.FileFault.TheVariants.{Memory};
+
+    ghost from_gives = { λ _ fault. fault ≡ Memory };
+
+    fn from(_error: AllocFailed<T>) -> Self {
+        FileFault::Memory
+    }
+}
+
+impl From<GraphFault> for FileFault {
+    ghost use Rattle.std.specs.Prelude.{◌≡◌};
+    ghost use Rattle.mode_file.specs.Faults.{of_graph};
+
+    ghost from_gives = { λ graph fault. fault ≡ of_graph graph };
+
+    fn from(fault: GraphFault) -> Self {
+        match fault {
+            GraphFault::OutOfRange(key) => FileFault::OutOfRange(key),
+            GraphFault::Repeated(name) => FileFault::Repeated(name),
+            GraphFault::Unknown(name) => FileFault::Unknown(name),
+            GraphFault::TwoSenders(name) => FileFault::TwoSenders(name),
+            GraphFault::Cycle(name) => FileFault::Cycle(name),
+            GraphFault::DeadlineLong(name) => FileFault::DeadlineLong(name),
+            GraphFault::TooMany(key) => FileFault::TooMany(key),
+            GraphFault::Memory => FileFault::Memory,
+        }
+    }
 }

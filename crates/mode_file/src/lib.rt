@@ -2,9 +2,12 @@
 #![tactic(auto)]
 
 mod faults;
+pub mod laws;
+mod reading;
 mod spelling;
 mod tables;
 mod unlisted;
 mod values;
 
 pub use faults::{FileFault, KeyText};
+pub use reading::read_raw;

@@ -1,4 +1,4 @@
-use Rattle.std.proofs.Common.{◌≡◌, ℕ, List, map, ap, ◌∙◌, rules, String}
+use Rattle.std.proofs.Common.{◌≡◌, List, map, ap, ◌∙◌, rules, String}
 use Rattle.std.specs.declared.alloc.Global.{Global}
 use Rattle.toml.specs.declared.value.Value.{Value}
 use Rattle.std.specs.Map.Iter.{deref_pair}

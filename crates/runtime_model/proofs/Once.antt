@@ -1,0 +1,95 @@
+-- Each start stands once in its cycle
+use Rattle.std.proofs.Common.{◌≡◌, ℕ, zero, suc, ◌+◌, ◌-◌, ◌*◌, ◌%◌, ◌<◌, ◌≤◌, Bool, true, false, cond, eqb, ◌&&◌, List, [], ◌∷◌, ◌++◌, length, get_or, map, refl, sym, ◌∙◌, ap, subst, arith, ◌⊎◌, inl, inr, ⊎_elim, length-append, append-nil}
+use Rattle.std.specs.Prelude.{nat_eq}
+use Rattle.std.specs.List.{AllByRecursion, flat_map}
+use Rattle.std.proofs.lemmas.Bool.{cases_lt, eqb-true, and_parts}
+use Rattle.std.proofs.lemmas.List.{get_or_append_left, get_or-append-add}
+use Rattle.std.proofs.lemmas.Grind.{flat_map-append}
+use Rattle.sched_model.specs.Numbers.{below}
+use Rattle.sched_model.specs.PlainMode.{PlainMode, hyper, task_at}
+use Rattle.runtime_model.specs.Entries.{Entry, Action, task_ends, beacon, slot, task_starts, cycle, at_tick, by_node, round_at, due_start, due_end}
+use Rattle.runtime_model.specs.Plans.{Plan}
+use Rattle.sched_model.proofs.Lists.{all_both, flat_all, below_all, cond_all, all_left, all_right}
+use Rattle.runtime_model.proofs.Cycles.{none, all_at, all_more, all_by_node, At, at_right, RightIn, ends_right, rounds_right, rank, flat_below-suc}
+
+abbrev pub Once : List Entry → Entry → Type 0
+Once xs x = (i j : ℕ) → i < length xs → j < length xs → get_or xs i none ≡ x → get_or xs j none ≡ x → i ≡ j
+
+abbrev Free : List Entry → Entry → Type 0
+Free xs x = AllByRecursion (λ e. e ≡ x → ⊥) xs
+
+right_part : (xs ys : List Entry) (i : ℕ) → length xs ≤ i → get_or (xs ++ ys) i none ≡ get_or ys (i - length xs) none
+right_part xs ys i l = ap (λ z. get_or (xs ++ ys) z none) (let e : i ≡ length xs + (i - length xs) = omega (arith, l) in e) ∙ get_or-append-add xs ys (i - length xs) none
+
+inside : (xs ys : List Entry) (x : Entry) → Free ys x → (k : ℕ) → k < length (xs ++ ys) → get_or (xs ++ ys) k none ≡ x → k < length xs
+inside xs ys x f k lk ek = ⊎_elim
+    (λ (l : k < length xs). l)
+    (λ (l : length xs ≤ k). absurd (all_at (λ e. e ≡ x → ⊥) ys (k - length xs) none f (omega (arith, lk, length-append xs ys, l)) (sym (right_part xs ys k l) ∙ ek)))
+    (cases_lt k (length xs))
+
+outside : (xs ys : List Entry) (x : Entry) → Free xs x → (k : ℕ) → k < length (xs ++ ys) → get_or (xs ++ ys) k none ≡ x → length xs ≤ k
+outside xs ys x f k lk ek = ⊎_elim
+    (λ (l : k < length xs). absurd (all_at (λ e. e ≡ x → ⊥) xs k none f l (sym (get_or_append_left xs ys none k l) ∙ ek)))
+    (λ (l : length xs ≤ k). l)
+    (cases_lt k (length xs))
+
+once_left : (xs ys : List Entry) (x : Entry) → Once xs x → Free ys x → Once (xs ++ ys) x
+once_left xs ys x o f i j li lj ei ej =
+    let a = inside xs ys x f i li ei in
+    let b = inside xs ys x f j lj ej in
+    o i j a b (sym (get_or_append_left xs ys none i a) ∙ ei) (sym (get_or_append_left xs ys none j b) ∙ ej)
+
+once_right : (xs ys : List Entry) (x : Entry) → Free xs x → Once ys x → Once (xs ++ ys) x
+once_right xs ys x f o i j li lj ei ej =
+    let a = outside xs ys x f i li ei in
+    let b = outside xs ys x f j lj ej in
+    let e = o (i - length xs) (j - length xs) (omega (arith, li, length-append xs ys, a)) (omega (arith, lj, length-append xs ys, b)) (sym (right_part xs ys i a) ∙ ei) (sym (right_part xs ys j b) ∙ ej) in
+    omega (arith, e, a, b)
+
+once_flat : (f : ℕ → List Entry) (x : Entry) (k : ℕ) → ((i : ℕ) → (i ≡ k → ⊥) → Free (f i) x) → Once (f k) x → (n : ℕ) → Once (flat_map f (below n)) x
+once_flat f x k free once zero = λ i j li lj ei ej. absurd (omega (arith, li))
+once_flat f x k free once (suc n) = subst (λ xs. Once xs x) (sym (flat_below-suc f n))
+    (⊎_elim
+      (λ (l : n < k). once_left (flat_map f (below n)) (f n) x (once_flat f x k free once n) (free n (λ e. omega (arith, e, l))))
+      (λ (l : k ≤ n). ⊎_elim
+        (λ (g : k < n). once_left (flat_map f (below n)) (f n) x (once_flat f x k free once n) (free n (λ e. omega (arith, e, g))))
+        (λ (g : n ≤ k). let same : k ≡ n = omega (arith, l, g) in
+          once_right (flat_map f (below n)) (f n) x
+            (flat_all (λ e. e ≡ x → ⊥) f (below n) (below_all (λ i. Free (f i) x) n (λ i h. free i (λ e. omega (arith, e, same, h)))))
+            (subst (λ z. Once (f z) x) same once))
+        (cases_lt k n))
+      (cases_lt n k))
+
+once_cond : (b : Bool) (x e : Entry) → Once (cond b (e ∷ []) []) x
+once_cond true x e i j li lj ei ej = omega (arith, li, lj)
+once_cond false x e i j li lj ei ej = absurd (omega (arith, li))
+
+start_of : Action → ℕ
+start_of (task_starts a) = suc a
+start_of w = 0
+
+pub start_once : (nodes : ℕ) (p : Plan) (u a : ℕ) → Once (cycle nodes p) (record { tick = u; action = task_starts a })
+unfolding cycle
+start_once nodes p u a =
+    let x : Entry = record { tick = u; action = task_starts a } in
+    let es = by_node nodes p (due_end p u) task_ends u in
+    let rs = flat_map (round_at p u) (below (length p.schedule.starts)) in
+    let one = λ (v : ℕ) (c : ℕ). cond (nat_eq (task_at p.mode c).node v && due_start p u c) (record { tick = u; action = task_starts c } ∷ []) [] in
+    once_flat (at_tick nodes p) x u
+      (λ t other. all_more (At p t) (λ e. e ≡ x → ⊥) (at_tick nodes p t) (λ e h q. other (sym h.0 ∙ ap (λ (z : Entry). z.tick) q)) (at_right nodes p t))
+      (once_right es (rs ++ by_node nodes p (due_start p u) task_starts u) x
+        (all_more (RightIn p u 0) (λ e. e ≡ x → ⊥) es (λ e h q. omega (arith, h.2, ap (λ (z : Entry). rank z.action) q)) (ends_right nodes p u))
+        (once_right rs (by_node nodes p (due_start p u) task_starts u) x
+          (all_more (RightIn p u 1) (λ e. e ≡ x → ⊥) rs (λ e h q. omega (arith, h.2, ap (λ (z : Entry). rank z.action) q)) (rounds_right p u))
+          (once_flat (λ v. flat_map (one v) (below (length p.mode.tasks))) x (task_at p.mode a).node
+            (λ v other. flat_all (λ e. e ≡ x → ⊥) (one v) (below (length p.mode.tasks)) (below_all (λ c. Free (one v c) x) (length p.mode.tasks)
+              (λ c l. cond_all (λ e. e ≡ x → ⊥) (nat_eq (task_at p.mode c).node v && due_start p u c) (record { tick = u; action = task_starts c } ∷ [])
+                (λ t. ((λ q. other (sym (eqb-true (task_at p.mode c).node v (and_parts (nat_eq (task_at p.mode c).node v) (due_start p u c) t).0) ∙ ap (λ z. (task_at p.mode z).node) (same c a (ap (λ (z : Entry). z.action) q)))), tt)))))
+            (once_flat (one (task_at p.mode a).node) x a
+              (λ c other. cond_all (λ e. e ≡ x → ⊥) (nat_eq (task_at p.mode c).node (task_at p.mode a).node && due_start p u c) (record { tick = u; action = task_starts c } ∷ []) (λ t. ((λ q. other (same c a (ap (λ (z : Entry). z.action) q))), tt)))
+              (once_cond (nat_eq (task_at p.mode a).node (task_at p.mode a).node && due_start p u a) x x) (length p.mode.tasks))
+            nodes)))
+      (hyper p.mode)
+  where
+    same : (c d : ℕ) → task_starts c ≡ task_starts d → c ≡ d
+    same c d q = grind (arith, q)

@@ -1,0 +1,53 @@
+-- Laws of the runtime, over every list of events
+use Rattle.std.specs.Prelude.{◌≡◌, ℕ, suc, ◌+◌, ◌*◌, ◌<◌, ◌≤◌, true, List, ◌∷◌, length, Contains, Some}
+use Rattle.sched_model.specs.PlainMode.{hyper, message_at}
+use Rattle.runtime_model.specs.Timeline.{drains}
+use Rattle.runtime_model.specs.HostCalls.{HostCall, AllMay, host_after, after_call}
+use Rattle.runtime_model.specs.Plans.{RightPlan, Carried, node_of}
+use Rattle.runtime_model.specs.Entries.{slot, task_starts, task_ends}
+use Rattle.runtime_model.specs.Placement.{placed, own_slot, own_start, window_at, run_at}
+use Rattle.runtime_model.specs.Outcomes.{PlainEvent, advance, Step, is_beacon, took, started, finished}
+use Rattle.runtime_model.specs.LookingBack.{synced, settled, coasts, recall, last_beacon}
+use Rattle.runtime_model.specs.System.{System, plan_at}
+use Rattle.runtime_model.specs.Packets.{held}
+use Rattle.runtime_model.specs.History.{history, step_of, spot_next, entry_at, last_spot, moment}
+use Rattle.runtime_model.specs.NodeKinds.{kind, kind_by}
+use Rattle.runtime_model.specs.Registers.{registers, in_register, values_of}
+
+-- a host that stands for a list of calls stands, after a further call whose condition holds, for the list with that call
+abbrev pub HostsKeepTime : Type 0
+HostsKeepTime = (rounds : List ℕ) (cs : List HostCall) (c : HostCall) → AllMay rounds (c ∷ cs) → after_call rounds (host_after rounds cs) c ≡ host_after rounds (c ∷ cs)
+
+-- by the rules of hearing, missing and restarting a node is Synced exactly where it heard the last beacon and has not restarted since,
+-- Coasting exactly where it runs otherwise, else Listening
+abbrev pub KindsFollow : Type 0
+KindsFollow = (v : ℕ) (ds : List Step) → kind v ds ≡ kind_by (synced v ds) (settled v ds) (coasts v ds)
+
+-- at a placed slot the out registers of the message's producers are all full exactly where their runs of the slot's window are held, with the same values
+abbrev pub RegistersHold : Type 0
+RegistersHold = (y : System) (es : List PlainEvent) (j i : ℕ) →
+    let ds = history y es in
+    let s = spot_next y ds in
+    let p = plan_at y s.hyper.mode in
+    RightPlan y.nodes p → Carried p j i → (entry_at y s).action ≡ slot j i → placed s.hyper.opening s.hyper.phase (own_slot p j i) ≡ true →
+    held p s.stay i (window_at p s.turn j i) ds ≡ registers p s.stay i ds
+
+-- at a placed start of run k the in registers have what was taken in window k
+abbrev pub InputsHold : Type 0
+InputsHold = (y : System) (es : List PlainEvent) (b i : ℕ) →
+    let ds = history y es in
+    let s = spot_next y ds in
+    let p = plan_at y s.hyper.mode in
+    RightPlan y.nodes p → Contains (message_at p.mode i).to b → i < length p.mode.messages → (entry_at y s).action ≡ task_starts b →
+    placed s.hyper.opening s.hyper.phase (own_start p (entry_at y s).tick b) ≡ true →
+    recall (node_of p b) s.stay (took (node_of p b) i (run_at p s.turn (entry_at y s).tick b)) ds ≡ values_of (in_register p s.stay b i ds)
+
+-- every mode that runs has a right plan
+abbrev pub AllRight : System → Type 0
+AllRight y = (es : List PlainEvent) → RightPlan y.nodes (plan_at y (last_spot (history y es)).hyper.mode)
+
+-- the ticks of consecutive beacons differ by at most the greatest gap, across a switch too
+abbrev pub BeaconGap : Type 0
+BeaconGap = (y : System) → AllRight y →
+    (es : List PlainEvent) (lost : ℕ) (g : Step) → is_beacon (step_of y (advance lost) (history y es)).out ≡ true → last_beacon (history y es) ≡ Some g →
+    moment y (step_of y (advance lost) (history y es)) ≤ moment y g + (plan_at y g.spot.hyper.mode).mode.gap

@@ -1,0 +1,17 @@
+pub mod Timeline
+pub mod HostCalls
+pub mod Plans
+pub mod Entries
+pub mod Placement
+pub mod Outcomes
+pub mod LookingBack
+pub mod System
+pub mod Packets
+pub mod Inputs
+pub mod History
+pub mod NodeKinds
+pub mod Registers
+pub mod NodeTables
+pub mod World
+pub mod Script
+pub mod Laws

@@ -1,0 +1,33 @@
+//! Laws of the runtime. Each holds for every list of events, or of calls.
+
+ghost use Rattle.runtime_model.specs.Laws.{BeaconGap, HostsKeepTime, InputsHold, KindsFollow, RegistersHold};
+
+/// A host that stands for a list of its calls stands for the list with one more, whose condition holds.
+pub fn hosts_keep_time()
+    ensures { HostsKeepTime }
+{
+}
+
+/// A node is in the state that the last two beacons and its restarts say.
+pub fn kinds_follow()
+    ensures { KindsFollow }
+{
+}
+
+/// At a placed slot the out registers of the producers have the runs of its window, or are not all full.
+pub fn registers_hold()
+    ensures { RegistersHold }
+{
+}
+
+/// At a placed start of a run the in registers have what was taken in the window of the same number.
+pub fn inputs_hold()
+    ensures { InputsHold }
+{
+}
+
+/// Consecutive beacons are at most the greatest gap apart.
+pub fn beacon_gap()
+    ensures { BeaconGap }
+{
+}
