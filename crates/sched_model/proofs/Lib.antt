@@ -21,6 +21,8 @@ pub mod Backward
 pub mod FirstInstances
 pub mod OneTurn
 pub mod SmallModes
+pub mod PlainPlaces
+pub mod KeptRules
 pub mod Stored
 pub mod OwnTrees
 pub mod Leasts
