@@ -83,7 +83,7 @@ period_of (a ∷ apps) k A (inr (i, e, at)) = let r = period_of apps i A at in (
 
 some_periods : (apps : List RawApp) → AllByRecursion KeptApp apps → AllByRecursion (λ p. 1 ≤ p) (map (λ (a : RawApp). unsigned_abs a.period) apps)
 some_periods [] h = tt
-some_periods (a ∷ apps) h = (h.0.period, some_periods apps h.1)
+some_periods (a ∷ apps) h = (h.0.period.0, some_periods apps h.1)
 
 -- ---- one mode, whose tasks have the numbers t, t + 1, .. and whose messages have n, n + 1, ..
 module _ (set : ModeSet) (nodes : List (List ℕ)) (mode : RawMode) (t n : ℕ) (round : 1 ≤ unsigned_abs set.round) (kept : KeptMode mode) where
@@ -124,9 +124,9 @@ module _ (set : ModeSet) (nodes : List (List ℕ)) (mode : RawMode) (t n : ℕ) 
   found a l = task_found nodes 0 t n mode.apps a (omega (arith, l, length-m))
 
   -- a producer or a consumer of a message is the task of the name
-  member : (k : ℕ) (A : RawApp) → At mode.apps k A → (names : List (List ℕ)) → KeptEnds A names → (a : ℕ) → Contains (map (place_of ts) (numbers_of (t + k) A.tasks names)) a →
+  member : (k : ℕ) (A : RawApp) → At mode.apps k A → (names : List (List ℕ)) (most : ℕ) → KeptEnds most A names → (a : ℕ) → Contains (map (place_of ts) (numbers_of (t + k) A.tasks names)) a →
       (name : List ℕ) × Contains names name × ((j : ℕ) × (j < length A.tasks) × (a ≡ k + j) × ((get_or A.tasks j no_raw_task).name ≡ name))
-  member k A at names ends a c =
+  member k A at names most ends a c =
       let number = λ (name : List ℕ). t + k + place_of_name name (map (λ (u : RawTask). u.name) A.tasks) in
       let x = from_mapped (place_of ts) (numbers_of (t + k) A.tasks names) 0 a c in
       let y = from_mapped number names [] x.0 x.1 in
@@ -152,12 +152,12 @@ module _ (set : ModeSet) (nodes : List (List ℕ)) (mode : RawMode) (t n : ℕ) 
   app_kept : (k : ℕ) (A : RawApp) → At mode.apps k A → KeptApp A
   app_kept k A at = at_all KeptApp mode.apps kept.apps k A at
 
-  message_kept : (A : RawApp) (j : ℕ) → KeptApp A → j < length A.messages → let u = get_or A.messages j no_raw_message in KeptEnds A u.from × KeptEnds A u.to
-  message_kept A j ok l = All-from_recursion (λ u. KeptEnds A u.from × KeptEnds A u.to) A.messages ok.messages j no_raw_message l
+  message_kept : (A : RawApp) (j : ℕ) → KeptApp A → j < length A.messages → let u = get_or A.messages j no_raw_message in KeptEnds 4 A u.from × KeptEnds 16 A u.to
+  message_kept A j ok l = All-from_recursion (λ u. KeptEnds 4 A u.from × KeptEnds 16 A u.to) A.messages ok.messages j no_raw_message l
 
   -- the first one of a list of names
-  has_one : (k : ℕ) (A : RawApp) (names : List (List ℕ)) → KeptEnds A names → (a : ℕ) × Contains (map (place_of ts) (numbers_of (t + k) A.tasks names)) a
-  has_one k A names ends =
+  has_one : (k : ℕ) (A : RawApp) (names : List (List ℕ)) (most : ℕ) → KeptEnds most A names → (a : ℕ) × Contains (map (place_of ts) (numbers_of (t + k) A.tasks names)) a
+  has_one k A names most ends =
       let l = map (place_of ts) (numbers_of (t + k) A.tasks names) in
       let number = λ (name : List ℕ). t + k + place_of_name name (map (λ (u : RawTask). u.name) A.tasks) in
       (get_or l 0 0, Contains-get_or l 0 0 (omega (arith, ends.some, length-map (numbers_of (t + k) A.tasks names) (place_of ts), length-map names number)))
@@ -181,8 +181,8 @@ module _ (set : ModeSet) (nodes : List (List ℕ)) (mode : RawMode) (t n : ℕ) 
       let c = comes w.0 w.1 in
       let u = get_or c.A.messages c.j no_raw_message in
       let ends = message_kept c.A c.j (app_kept c.k c.A c.at) c.within in
-      let x = member c.k c.A c.at u.from ends.0 a (subst (λ (l : List ℕ). Contains l a) c.is.from w.2) in
-      let y = member c.k c.A c.at u.to ends.1 b (subst (λ (l : List ℕ). Contains l b) c.is.to w.3) in
+      let x = member c.k c.A c.at u.from 4 ends.0 a (subst (λ (l : List ℕ). Contains l a) c.is.from w.2) in
+      let y = member c.k c.A c.at u.to 16 ends.1 b (subst (λ (l : List ℕ). Contains l b) c.is.to w.3) in
       let ti = get_or c.A.tasks x.2.0 no_raw_task in
       let tj = get_or c.A.tasks y.2.0 no_raw_task in
       record {
@@ -263,15 +263,15 @@ module _ (set : ModeSet) (nodes : List (List ℕ)) (mode : RawMode) (t n : ℕ) 
       numbers = λ i j li lj e. omega (arith, e, (comes i li).is.number, (comes j lj).is.number);
       producer = λ i l.
         let c = comes i l in
-        let o = has_one c.k c.A (get_or c.A.messages c.j no_raw_message).from (message_kept c.A c.j (app_kept c.k c.A c.at) c.within).0 in
+        let o = has_one c.k c.A (get_or c.A.messages c.j no_raw_message).from 4 (message_kept c.A c.j (app_kept c.k c.A c.at) c.within).0 in
         (o.0, subst (λ (x : List ℕ). Contains x o.0) (sym c.is.from) o.1);
       consumer = λ i l.
         let c = comes i l in
-        let o = has_one c.k c.A (get_or c.A.messages c.j no_raw_message).to (message_kept c.A c.j (app_kept c.k c.A c.at) c.within).1 in
+        let o = has_one c.k c.A (get_or c.A.messages c.j no_raw_message).to 16 (message_kept c.A c.j (app_kept c.k c.A c.at) c.within).1 in
         (o.0, subst (λ (x : List ℕ). Contains x o.0) (sym c.is.to) o.1);
       consumer_app = λ i b l h.
         let c = comes i l in
-        let x = member c.k c.A c.at (get_or c.A.messages c.j no_raw_message).to (message_kept c.A c.j (app_kept c.k c.A c.at) c.within).1 b (subst (λ (x : List ℕ). Contains x b) c.is.to h) in
+        let x = member c.k c.A c.at (get_or c.A.messages c.j no_raw_message).to 16 (message_kept c.A c.j (app_kept c.k c.A c.at) c.within).1 b (subst (λ (x : List ℕ). Contains x b) c.is.to h) in
         let s = stands c.k x.2.0 c.A c.at x.2.1 in
         (ap (λ y. (task_at m y).period) x.2.2 ∙ s.period ∙ sym c.is.period, ap (λ y. (task_at m y).deadline) x.2.2 ∙ s.deadline ∙ sym c.is.deadline);
       rank = rank m inside acyclic;

@@ -4,6 +4,8 @@ use Rattle.std.specs.List.{AllByRecursion, list_any, flat_map}
 use Rattle.std.specs.Str.{bytes_eq}
 use Rattle.std.proofs.lemmas.Int.{ints}
 use Rattle.std.proofs.lemmas.Bool.{and_parts, ltb-true, leb-true, not-true}
+use Rattle.std.proofs.lemmas.List.{length_push, length-append, append-nil}
+use Rattle.std.proofs.lemmas.Grind.{flat_map-append}
 use borrow.Author.Differences.{le-true, at_most_in}
 use Rattle.app_graph.specs.declared.faults.GraphFault.{GraphFault}
 use Rattle.app_graph.specs.declared.faults.GraphFault.TheVariants.{OutOfRange, Repeated, Unknown, TwoSenders, Cycle, TooMany}
@@ -62,17 +64,19 @@ abs_below (negsuc k) z a b = absurd (omega (arith, ints, a))
 
 -- ---- an application
 -- the producers or the consumers of a message: there are some, and each is a task
-pub record KeptEnds (app : RawApp) (names : List (List ℕ)) : Type 0 where
+pub record KeptEnds (most : ℕ) (app : RawApp) (names : List (List ℕ)) : Type 0 where
   pub some : 0 < length names
+  pub few : length names ≤ most
   pub known : AllByRecursion (λ n. is_task app.tasks n ≡ true) names
 
 pub record KeptApp (app : RawApp) : Type 0 where
-  pub period : 1 ≤ unsigned_abs app.period
+  pub period : (1 ≤ unsigned_abs app.period) × (unsigned_abs app.period ≤ 1000000000)
+  pub deadline : 1 ≤ unsigned_abs app.deadline
   pub wcets : AllByRecursion (λ t. (1 ≤ unsigned_abs t.wcet) × (unsigned_abs t.wcet ≤ unsigned_abs app.period)) app.tasks
-  pub messages : AllByRecursion (λ m. KeptEnds app m.from × KeptEnds app m.to) app.messages
+  pub messages : AllByRecursion (λ m. KeptEnds 4 app m.from × KeptEnds 16 app m.to) app.messages
   pub acyclic : has_cycle app ≡ false
 
-kept_ends : (key : Key) (most : ℕ) (app : RawApp) (names : List (List ℕ)) → ends key most app names ≡ None → KeptEnds app names
+kept_ends : (key : Key) (most : ℕ) (app : RawApp) (names : List (List ℕ)) → ends key most app names ≡ None → KeptEnds most app names
 kept_ends key most app names e =
     let each_known = each_after (listed key (is_task app.tasks)) [] names in
     let rules = unless (at_most most names) (TooMany key) ∷ each_known ∷ [] in
@@ -80,6 +84,7 @@ kept_ends key most app names e =
     let b = kept_both (unless (at_most most names) (TooMany key)) (each_known ∷ []) a.1 in
     record {
       some = ltb-true 0 (length names) (kept_test (has_some names) (OutOfRange key) a.0);
+      few = leb-true (length names) most (kept_test (at_most most names) (TooMany key) b.0);
       known = mapped (λ n. (earlier : List (List ℕ)) × (listed key (is_task app.tasks) earlier n ≡ None)) (λ n. is_task app.tasks n ≡ true) (λ n h. known n h.0 h.1) names
         (kept_after (listed key (is_task app.tasks)) [] names (kept_both each_known [] b.1).0);
     }
@@ -92,7 +97,7 @@ kept_ends key most app names e =
         let b = kept_both second (last ∷ []) a.1 in
         kept_test (is_task app.tasks n) (Unknown n) (kept_both last [] b.1).0
 
-kept_message : (app : RawApp) (m : RawMessage) (before : List RawMessage) → message_values app before m ≡ None → KeptEnds app m.from × KeptEnds app m.to
+kept_message : (app : RawApp) (m : RawMessage) (before : List RawMessage) → message_values app before m ≡ None → KeptEnds 4 app m.from × KeptEnds 16 app m.to
 kept_message app m before e =
     let r4 = unless (nat_lt (length before) 64) (TooMany KMessage) ∷ [] in
     let r3 = unless (on_one_node (tasks_named app m.from)) (TwoSenders m.name) ∷ r4 in
@@ -120,6 +125,24 @@ kept_wcet set app t before e =
     let w = within_parts (pos 1) app.period t.wcet (kept_test (within (pos 1) app.period t.wcet) (OutOfRange KWcet) d.0) in
     (abs_some t.wcet w.0, abs_below t.wcet app.period w.0 w.1)
 
+-- the rules on its tasks and on its messages are kept
+app_rules : (set : RawSet) (earlier : List RawApp) (app : RawApp) → app_values set earlier app ≡ None →
+    (each_after (task_values set app) (flat_map (λ a. a.tasks) earlier) app.tasks ≡ None) × (each_after (message_values app) (flat_map (λ a. a.messages) earlier) app.messages ≡ None)
+app_rules set earlier app e =
+    let r8 = unless (not (has_cycle app)) (Cycle app.name) in
+    let r7 = each (λ t. unless (nat_le (inputs_of app t) 64) (TooMany KInputs)) app.tasks in
+    let r6 = each_after (message_values app) (flat_map (λ a. a.messages) earlier) app.messages in
+    let r5 = each_after (task_values set app) (flat_map (λ a. a.tasks) earlier) app.tasks in
+    let r4 = unless (has_some app.tasks) (OutOfRange KTask) in
+    let r3 = unless (within (pos 1) (pos 1000000000000) app.deadline) (OutOfRange KDeadline) in
+    let r2 = unless (within (pos 1) (pos 1000000000) app.period) (OutOfRange KPeriod) in
+    let a = kept_both (named app.name (is_app earlier app.name)) (r2 ∷ r3 ∷ r4 ∷ r5 ∷ r6 ∷ r7 ∷ r8 ∷ []) e in
+    let b = kept_both r2 (r3 ∷ r4 ∷ r5 ∷ r6 ∷ r7 ∷ r8 ∷ []) a.1 in
+    let c = kept_both r3 (r4 ∷ r5 ∷ r6 ∷ r7 ∷ r8 ∷ []) b.1 in
+    let d = kept_both r4 (r5 ∷ r6 ∷ r7 ∷ r8 ∷ []) c.1 in
+    let f = kept_both r5 (r6 ∷ r7 ∷ r8 ∷ []) d.1 in
+    ((f.0), (kept_both r6 (r7 ∷ r8 ∷ []) f.1).0)
+
 kept_app : (set : RawSet) (earlier : List RawApp) (app : RawApp) → app_values set earlier app ≡ None → KeptApp app
 kept_app set earlier app e =
     let r8 = unless (not (has_cycle app)) (Cycle app.name) in
@@ -138,17 +161,74 @@ kept_app set earlier app e =
     let h = kept_both r7 (r8 ∷ []) g.1 in
     let i = kept_both r8 [] h.1 in
     record {
-      period = (abs_within app.period 1000000000 (within_parts (pos 1) (pos 1000000000) app.period (kept_test (within (pos 1) (pos 1000000000) app.period) (OutOfRange KPeriod) b.0))).0;
+      period = abs_within app.period 1000000000 (within_parts (pos 1) (pos 1000000000) app.period (kept_test (within (pos 1) (pos 1000000000) app.period) (OutOfRange KPeriod) b.0));
+      deadline = (abs_within app.deadline 1000000000000 (within_parts (pos 1) (pos 1000000000000) app.deadline (kept_test (within (pos 1) (pos 1000000000000) app.deadline) (OutOfRange KDeadline) c.0))).0;
       wcets = mapped (λ t. (before : List RawTask) × (task_values set app before t ≡ None)) (λ t. (1 ≤ unsigned_abs t.wcet) × (unsigned_abs t.wcet ≤ unsigned_abs app.period))
         (λ t w. kept_wcet set app t w.0 w.1) app.tasks (kept_after (task_values set app) (flat_map (λ x. x.tasks) earlier) app.tasks f.0);
-      messages = mapped (λ m. (before : List RawMessage) × (message_values app before m ≡ None)) (λ m. KeptEnds app m.from × KeptEnds app m.to)
+      messages = mapped (λ m. (before : List RawMessage) × (message_values app before m ≡ None)) (λ m. KeptEnds 4 app m.from × KeptEnds 16 app m.to)
         (λ m w. kept_message app m w.0 w.1) app.messages (kept_after (message_values app) (flat_map (λ x. x.messages) earlier) app.messages g.0);
       acyclic = not-true (has_cycle app) (kept_test (not (has_cycle app)) (Cycle app.name) i.0);
     }
 
+-- ---- how many tasks and messages a mode has
+-- where each has fewer than most before it, they are most at most
+count_after : {F A : Type 0} (rule : List A → A → Rule F) (most : ℕ) → ((before : List A) (x : A) → rule before x ≡ None → length before < most) → (before xs : List A) → each_after rule before xs ≡ None → length before ≤ most → length before + length xs ≤ most
+count_after rule most few before [] e l = omega (arith, l)
+count_after {A} rule most few before (x ∷ xs) e l =
+    let rest = each_after rule (before ++ x ∷ []) xs in
+    let a = kept_both (rule before x) (rest ∷ []) e in
+    let push = length_push before x in
+    omega (arith, push, count_after rule most few (before ++ x ∷ []) xs (kept_both rest [] a.1).0 (omega (arith, push, few before x a.0)))
+
+-- the same for what applications have
+count_apps : {A : Type 0} (part : RawApp → List A) (most : ℕ) (set : RawSet) → ((earlier : List RawApp) (a : RawApp) → app_values set earlier a ≡ None → length (flat_map part earlier) ≤ most → length (flat_map part earlier) + length (part a) ≤ most) →
+    (earlier apps : List RawApp) → each_after (app_values set) earlier apps ≡ None → length (flat_map part earlier) ≤ most → length (flat_map part earlier) + length (flat_map part apps) ≤ most
+count_apps part most set one earlier [] e l = omega (arith, l)
+count_apps part most set one earlier (a ∷ apps) e l =
+    let rest = each_after (app_values set) (earlier ++ a ∷ []) apps in
+    let w = kept_both (app_values set earlier a) (rest ∷ []) e in
+    let here = one earlier a w.0 l in
+    let join = ap length (flat_map-append part earlier (a ∷ []) ∙ ap (λ ys. flat_map part earlier ++ ys) (append-nil (part a))) ∙ length-append (flat_map part earlier) (part a) in
+    let more = count_apps part most set one (earlier ++ a ∷ []) apps (kept_both rest [] w.1).0 (omega (arith, join, here)) in
+    omega (arith, join, more, length-append (part a) (flat_map part apps))
+
+task_counted : (set : RawSet) (earlier : List RawApp) (app : RawApp) → app_values set earlier app ≡ None → length (flat_map (λ (a : RawApp). a.tasks) earlier) ≤ 128 → length (flat_map (λ (a : RawApp). a.tasks) earlier) + length app.tasks ≤ 128
+task_counted set earlier app e l =
+    count_after (task_values set app) 128 (λ before t k. ltb-true (length before) 128 (last_rule t before k)) (flat_map (λ (a : RawApp). a.tasks) earlier) app.tasks (app_rules set earlier app e).0 l
+  where
+    last_rule : (t : RawTask) (before : List RawTask) → task_values set app before t ≡ None → nat_lt (length before) 128 ≡ true
+    last_rule t before e =
+        let r5 = unless (nat_lt (length before) 128) (TooMany KTask) in
+        let r4 = unless (is_name t.body) (OutOfRange KBody) in
+        let r3 = unless (within (pos 1) app.period t.wcet) (OutOfRange KWcet) in
+        let r2 = unless (among t.node set.nodes) (Unknown t.node) in
+        let r1 = unless (is_name t.node) (OutOfRange KNode) in
+        let a = kept_both (named t.name (is_task before t.name)) (r1 ∷ r2 ∷ r3 ∷ r4 ∷ r5 ∷ []) e in
+        let b = kept_both r1 (r2 ∷ r3 ∷ r4 ∷ r5 ∷ []) a.1 in
+        let c = kept_both r2 (r3 ∷ r4 ∷ r5 ∷ []) b.1 in
+        let d = kept_both r3 (r4 ∷ r5 ∷ []) c.1 in
+        let f = kept_both r4 (r5 ∷ []) d.1 in
+        kept_test (nat_lt (length before) 128) (TooMany KTask) (kept_both r5 [] f.1).0
+
+message_counted : (set : RawSet) (earlier : List RawApp) (app : RawApp) → app_values set earlier app ≡ None → length (flat_map (λ (a : RawApp). a.messages) earlier) ≤ 64 → length (flat_map (λ (a : RawApp). a.messages) earlier) + length app.messages ≤ 64
+message_counted set earlier app e l =
+    count_after (message_values app) 64 (λ before m k. ltb-true (length before) 64 (last_rule m before k)) (flat_map (λ (a : RawApp). a.messages) earlier) app.messages (app_rules set earlier app e).1 l
+  where
+    last_rule : (m : RawMessage) (before : List RawMessage) → message_values app before m ≡ None → nat_lt (length before) 64 ≡ true
+    last_rule m before e =
+        let r4 = unless (nat_lt (length before) 64) (TooMany KMessage) in
+        let r3 = unless (on_one_node (tasks_named app m.from)) (TwoSenders m.name) in
+        let a = kept_both (named m.name (is_message before m.name)) (ends KFrom 4 app m.from ∷ ends KTo 16 app m.to ∷ r3 ∷ r4 ∷ []) e in
+        let b = kept_both (ends KFrom 4 app m.from) (ends KTo 16 app m.to ∷ r3 ∷ r4 ∷ []) a.1 in
+        let c = kept_both (ends KTo 16 app m.to) (r3 ∷ r4 ∷ []) b.1 in
+        let d = kept_both r3 (r4 ∷ []) c.1 in
+        kept_test (nat_lt (length before) 64) (TooMany KMessage) (kept_both r4 [] d.1).0
+
 -- ---- a mode, and the set
 pub record KeptMode (mode : RawMode) : Type 0 where
   pub apps : AllByRecursion KeptApp mode.apps
+  pub tasks : length (flat_map (λ (a : RawApp). a.tasks) mode.apps) ≤ 128
+  pub messages : length (flat_map (λ (a : RawApp). a.messages) mode.apps) ≤ 64
   pub sizes : (hyper_of mode ≤ 1000000000000) × AllByRecursion (λ a. unsigned_abs a.deadline ≤ hyper_of mode) mode.apps
 
 kept_sizes : (set : RawSet) (mode : RawMode) → size_values set mode ≡ None → (hyper_of mode ≤ 1000000000000) × AllByRecursion (λ a. unsigned_abs a.deadline ≤ hyper_of mode) mode.apps
@@ -164,11 +244,15 @@ kept_mode set earlier mode e =
     let c = kept_both r3 (r4 ∷ []) b.1 in
     record {
       apps = mapped (λ x. (before : List RawApp) × (app_values set before x ≡ None)) KeptApp (λ x w. kept_app set w.0 x w.1) mode.apps (kept_after (app_values set) [] mode.apps c.0);
+      tasks = omega (arith, count_apps (λ (a : RawApp). a.tasks) 128 set (task_counted set) [] mode.apps c.0 (omega arith));
+      messages = omega (arith, count_apps (λ (a : RawApp). a.messages) 64 set (message_counted set) [] mode.apps c.0 (omega arith));
       sizes = kept_sizes set mode (kept_both r4 [] c.1).0;
     }
 
 pub record KeptSet (set : RawSet) : Type 0 where
-  pub round : 1 ≤ unsigned_abs set.round
+  pub slots : (1 ≤ unsigned_abs set.slots) × (unsigned_abs set.slots ≤ 32)
+  pub round : (1 ≤ unsigned_abs set.round) × (unsigned_abs set.round ≤ 1000000000)
+  pub gap : (unsigned_abs set.round ≤ unsigned_abs set.gap) × (unsigned_abs set.gap ≤ 1000000000)
   pub modes : AllByRecursion KeptMode set.modes
 
 pub kept_set : (set : RawSet) → value_rules set ≡ None → KeptSet set
@@ -193,7 +277,11 @@ kept_set set e =
     let i = kept_both r8 (r9 ∷ r10 ∷ r11 ∷ []) h.1 in
     let j = kept_both r9 (r10 ∷ r11 ∷ []) i.1 in
     let k = kept_both r10 (r11 ∷ []) j.1 in
+    let round = within_parts (pos 1) (pos 1000000000) set.round (kept_test (within (pos 1) (pos 1000000000) set.round) (OutOfRange KRound) b.0) in
+    let gap = within_parts set.round (pos 1000000000) set.gap (kept_test (within set.round (pos 1000000000) set.gap) (OutOfRange KGap) c.0) in
     record {
-      round = (abs_within set.round 1000000000 (within_parts (pos 1) (pos 1000000000) set.round (kept_test (within (pos 1) (pos 1000000000) set.round) (OutOfRange KRound) b.0))).0;
+      slots = abs_within set.slots 32 (within_parts (pos 1) (pos 32) set.slots (kept_test (within (pos 1) (pos 32) set.slots) (OutOfRange KSlots) a.0));
+      round = abs_within set.round 1000000000 round;
+      gap = (abs_below set.round set.gap round.0 gap.0, (abs_within set.gap 1000000000 (omega (arith, ints, round.0, gap.0), gap.1)).1);
       modes = mapped (λ m. (before : List RawMode) × (mode_values set before m ≡ None)) KeptMode (λ m w. kept_mode set w.0 m w.1) set.modes (kept_after (mode_values set) [] set.modes (kept_both r11 [] k.1).0);
     }

@@ -25,7 +25,7 @@ read_valid : (raw : RawSet) → value_rules raw ≡ None → (mode : Mode) → C
 read_valid raw e mode c =
     let kept = kept_set raw e in
     let f = mode_found raw.nodes 0 0 raw.modes kept.modes mode c in
-    subst (λ (x : Mode). IsValid (plain_mode (set_of raw) x)) f.4 (mode_valid (set_of raw) raw.nodes f.0 f.2 f.3 kept.round f.1)
+    subst (λ (x : Mode). IsValid (plain_mode (set_of raw) x)) f.4 (mode_valid (set_of raw) raw.nodes f.0 f.2 f.3 kept.round.0 f.1)
 
 pub modes_valid : (set : ModeSet) → KeepsRules set → (mode : Mode) → Contains set.modes mode → IsValid (plain_mode set mode)
 modes_valid set (raw, e, same) mode c =
