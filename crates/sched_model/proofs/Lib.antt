@@ -21,6 +21,7 @@ pub mod Backward
 pub mod FirstInstances
 pub mod OneTurn
 pub mod SmallModes
+pub mod Sizes
 pub mod KeptSets
 pub mod KeptModes
 pub mod Ranks
