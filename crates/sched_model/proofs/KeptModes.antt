@@ -1,37 +1,31 @@
 -- The modes of a file that breaks no rule are valid
-use Rattle.std.proofs.Common.{◌≡◌, ℕ, zero, suc, ◌+◌, ◌-◌, ◌*◌, ◌<◌, ◌≤◌, Bool, true, false, cond, not, eqb, ltb, ◌&&◌, List, [], ◌∷◌, ◌++◌, length, get_or, map, Contains, Option, Some, None, refl, sym, ◌∙◌, ap, subst, arith, ◌⊎◌, inl, inr, ⊎_elim, ◌↔◌, ℤ, pos, unsigned_abs, unwrap_or}
-use Rattle.std.specs.List.{AllByRecursion, list_any, flat_map, fold, position_or_len, prefix_len}
+use Rattle.std.proofs.Common.{◌≡◌, ℕ, zero, suc, ◌+◌, ◌<◌, ◌≤◌, true, false, cond, not, ltb, ◌&&◌, List, [], ◌∷◌, length, get_or, map, Contains, Option, Some, None, refl, sym, ◌∙◌, ap, subst, arith, inl, inr, ⊎_elim, ℤ, unsigned_abs, unwrap_or}
+use Rattle.std.specs.List.{AllByRecursion, fold, position_or_len}
 use Rattle.std.specs.Str.{bytes_eq}
-use Rattle.std.proofs.lemmas.Bool.{cases_lt, cases_Bool, cond-true, cond-false, lt-ltb, and_parts, and_from, or_cases, both_ways}
-use Rattle.std.proofs.lemmas.List.{get_or-map, get_or_default, length-map}
+use Rattle.std.proofs.lemmas.Bool.{cases_Bool, cond-true, cond-false, lt-ltb, and_from, or_cases, both_ways}
+use Rattle.std.proofs.lemmas.List.{get_or-map, length-map}
 use Rattle.std.proofs.lemmas.List.Elements.{All-from_recursion, All-contains, Contains-get_or}
 use Rattle.std.proofs.lemmas.Slice.Eq.{bytes_eq-Decides}
 use Rattle.app_graph.specs.declared.raw.RawTask.{RawTask}
 use Rattle.app_graph.specs.declared.raw.RawMessage.{RawMessage}
 use Rattle.app_graph.specs.declared.raw.RawApp.{RawApp}
 use Rattle.app_graph.specs.declared.raw.RawMode.{RawMode}
+use Rattle.app_graph.specs.declared.raw.RawSet.{RawSet}
 use Rattle.app_graph.specs.declared.mode_set.App.{App}
-use Rattle.app_graph.specs.declared.mode_set.Mode.{Mode}
 use Rattle.app_graph.specs.declared.mode_set.ModeSet.{ModeSet}
 use Rattle.app_graph.specs.ValueRules.{among, is_task, goes, has_cycle, hyper_of}
+use Rattle.app_graph.specs.Cycles as walks
+use Rattle.app_graph.proofs.Levels.{cycle_law}
+use Rattle.app_graph.specs.Hyperperiod.{hyperperiod, lcm}
 use Rattle.app_graph.specs.Numbering.{place_of as place_of_name, apps_from, numbers_of}
-use Rattle.sched_model.specs.PlainMode.{PlainMode, PlainTask, PlainMessage, hyper, no_task, no_message, task_at, message_at, TaskOfApp, tasks_of, place_of, plain_task, plain_mode}
+use Rattle.sched_model.specs.PlainMode.{PlainMode, PlainTask, hyper, no_task, task_at, message_at, TaskOfApp, tasks_of, place_of, plain_task, plain_mode}
 use Rattle.sched_model.specs.TaskGraph.{IsEdge, Walk}
 use Rattle.sched_model.specs.ValidMode.{IsValid, Joins}
-use Rattle.sched_model.specs.Numbers.{lcm}
 use Rattle.sched_model.proofs.Tests.{passes}
 use Rattle.sched_model.proofs.Ranks.{rank, rank_low, rank_rises}
 use Rattle.sched_model.proofs.Graph.{edge_message}
 use Rattle.sched_model.proofs.KeptRules.{KeptEnds, KeptApp, KeptMode}
-use Rattle.sched_model.proofs.PlainPlaces.{no_raw_task, no_raw_message, nothing, At, IsTask, task_there, task_found, one_app, at_all, place_at, IsMessage, message_found}
-
--- STANDIN
-AppWalk : RawApp → ℕ → RawTask → RawTask → Type 0
-AppWalk app zero t u = t ≡ u
-AppWalk app (suc n) t u = (v : RawTask) × Contains app.tasks v × (goes app t v ≡ true) × AppWalk app n v u
-
-cycle_law : (app : RawApp) → (has_cycle app ≡ true) ↔ ((t : RawTask) × (Contains app.tasks t × ((n : ℕ) × AppWalk app (suc n) t t)))
-cycle_law = ?
+use Rattle.sched_model.proofs.PlainPlaces.{no_raw_task, no_raw_message, nothing, At, task_there, task_found, one_app, at_all, place_at, IsMessage, message_found}
 
 -- ---- a known name has a place
 known_place : (name : List ℕ) (us : List RawTask) → is_task us name ≡ true →
@@ -41,14 +35,14 @@ known_place name (u ∷ us) e =
     let here = bytes_eq name u.name in
     let rest = position_or_len (bytes_eq name) (map (λ u. u.name) us) in
     ⊎_elim
-      (λ (yes : here ≡ true).
-        let z : cond (not here) (1 + rest) 0 ≡ 0 = cond-false (not here) (1 + rest) 0 (ap not yes) in
-        (omega (arith, z), ap (λ i. (get_or (u ∷ us) i no_raw_task).name) z ∙ sym ((bytes_eq-Decides name u.name).0 yes)))
-      (λ (no : here ≡ false).
-        let r = known_place name us (⊎_elim (λ (y : here ≡ true). absurd (both_ways here no y)) (λ (k : is_task us name ≡ true). k) (or_cases here (is_task us name) e)) in
-        let z : cond (not here) (1 + rest) 0 ≡ suc rest = cond-true (not here) (1 + rest) 0 (ap not no) ∙ (let s : 1 + rest ≡ suc rest = omega arith in s) in
-        (omega (arith, z, r.0), ap (λ i. (get_or (u ∷ us) i no_raw_task).name) z ∙ r.1))
-      (cases_Bool here)
+    (λ (yes : here ≡ true).
+    let z : cond (not here) (1 + rest) 0 ≡ 0 = cond-false (not here) (1 + rest) 0 (ap not yes) in
+    (omega (arith, z), ap (λ i. (get_or (u ∷ us) i no_raw_task).name) z ∙ sym ((bytes_eq-Decides name u.name).0 yes)))
+    (λ (no : here ≡ false).
+    let r = known_place name us (⊎_elim (λ (y : here ≡ true). absurd (both_ways here no y)) (λ (k : is_task us name ≡ true). k) (or_cases here (is_task us name) e)) in
+    let z : cond (not here) (1 + rest) 0 ≡ suc rest = cond-true (not here) (1 + rest) 0 (ap not no) ∙ (let s : 1 + rest ≡ suc rest = omega arith in s) in
+    (omega (arith, z, r.0), ap (λ i. (get_or (u ∷ us) i no_raw_task).name) z ∙ r.1))
+    (cases_Bool here)
 
 place_is : (name : List ℕ) (us : List RawTask) → is_task us name ≡ true → place_of_name name (map (λ u. u.name) us) ≡ position_or_len (bytes_eq name) (map (λ u. u.name) us)
 place_is name us e =
@@ -86,7 +80,7 @@ some_periods [] h = tt
 some_periods (a ∷ apps) h = (h.0.period.0, some_periods apps h.1)
 
 -- ---- one mode, whose tasks have the numbers t, t + 1, .. and whose messages have n, n + 1, ..
-module _ (set : ModeSet) (nodes : List (List ℕ)) (mode : RawMode) (t n : ℕ) (round : 1 ≤ unsigned_abs set.round) (kept : KeptMode mode) where
+module _ (raw : RawSet) (set : ModeSet) (nodes : List (List ℕ)) (mode : RawMode) (t n : ℕ) (round : 1 ≤ unsigned_abs set.round) (kept : KeptMode raw mode) where
   abbrev pub m : PlainMode
   m = plain_mode set (record { name = mode.name; apps = apps_from nodes t n mode.apps })
 
@@ -186,9 +180,17 @@ module _ (set : ModeSet) (nodes : List (List ℕ)) (mode : RawMode) (t n : ℕ) 
       let ti = get_or c.A.tasks x.2.0 no_raw_task in
       let tj = get_or c.A.tasks y.2.0 no_raw_task in
       record {
-        k = c.k; A = c.A; at = c.at; i = x.2.0; j = y.2.0; i_low = x.2.1; j_low = y.2.1; from = x.2.2; to = y.2.2;
+        k = c.k;
+        A = c.A;
+        at = c.at;
+        i = x.2.0;
+        j = y.2.0;
+        i_low = x.2.1;
+        j_low = y.2.1;
+        from = x.2.2;
+        to = y.2.2;
         goes_so = passes (λ (v : RawMessage). among ti.name v.from && among tj.name v.to) c.A.messages no_raw_message c.j c.within
-          (and_from (among ti.name u.from) (among tj.name u.to) (among_names x.0 u.from ti.name x.1 x.2.3) (among_names y.0 u.to tj.name y.1 y.2.3));
+            (and_from (among ti.name u.from) (among tj.name u.to) (among_names x.0 u.from ti.name x.1 x.2.3) (among_names y.0 u.to tj.name y.1 y.2.3));
       }
 
   inside : (a b : ℕ) → IsEdge m a b → (a < length m.tasks) × (b < length m.tasks)
@@ -198,8 +200,7 @@ module _ (set : ModeSet) (nodes : List (List ℕ)) (mode : RawMode) (t n : ℕ) 
 
   -- ---- walks stay within an application, so none leads back
   walk_in : (c a b : ℕ) → Walk m a b c → (k : ℕ) (A : RawApp) → At mode.apps k A → (i : ℕ) → i < length A.tasks → a ≡ k + i →
-      (j : ℕ) × (j < length A.tasks) × (b ≡ k + j) × AppWalk A c (get_or A.tasks i no_raw_task) (get_or A.tasks j no_raw_task)
-  unfolding AppWalk
+      (j : ℕ) × (j < length A.tasks) × (b ≡ k + j) × walks.Walk A c (get_or A.tasks i no_raw_task) (get_or A.tasks j no_raw_task)
   walk_in zero a b w k A at i l e = (i, l, sym w ∙ e, refl)
   walk_in (suc c) a b (d, edge, rest) k A at i l e =
       let x = edge_in a d edge in
@@ -215,14 +216,14 @@ module _ (set : ModeSet) (nodes : List (List ℕ)) (mode : RawMode) (t n : ℕ) 
   acyclic a c w =
       let x = edge_in a w.0 w.1 in
       let r = walk_in (suc c) a a w x.k x.A x.at x.i x.i_low x.from in
-      let back : AppWalk x.A (suc c) (get_or x.A.tasks x.i no_raw_task) (get_or x.A.tasks x.i no_raw_task) =
-        subst (λ j. AppWalk x.A (suc c) (get_or x.A.tasks x.i no_raw_task) (get_or x.A.tasks j no_raw_task)) (let s : r.0 ≡ x.i = omega (arith, r.2, x.from) in s) r.3 in
+      let back : walks.Walk x.A (suc c) (get_or x.A.tasks x.i no_raw_task) (get_or x.A.tasks x.i no_raw_task) =
+      subst (λ j. walks.Walk x.A (suc c) (get_or x.A.tasks x.i no_raw_task) (get_or x.A.tasks j no_raw_task)) (let s : r.0 ≡ x.i = omega (arith, r.2, x.from) in s) r.3 in
       both_ways (has_cycle x.A) (app_kept x.k x.A x.at).acyclic
-        ((cycle_law x.A).1 (get_or x.A.tasks x.i no_raw_task, (Contains-get_or x.A.tasks x.i no_raw_task x.i_low, (c, back))))
+      ((cycle_law x.A).1 (get_or x.A.tasks x.i no_raw_task, (Contains-get_or x.A.tasks x.i no_raw_task x.i_low, (c, back))))
 
   -- ---- the mode is valid
   hyper_is : hyper m ≡ hyper_of mode
-  unfolding hyper hyper_of
+  unfolding hyper hyperperiod
   hyper_is = ap (λ (ps : List ℕ). fold lcm 1 ps) (periods_are nodes t n mode.apps)
 
   period_in : (k : ℕ) (A : RawApp) → At mode.apps k A → Contains m.periods (unsigned_abs A.period)
@@ -243,38 +244,38 @@ module _ (set : ModeSet) (nodes : List (List ℕ)) (mode : RawMode) (t n : ℕ) 
 
   pub mode_valid : IsValid m
   mode_valid = record {
-      round = round;
-      periods = λ p c. All-contains (λ p. 1 ≤ p) m.periods p (All-from_recursion (λ p. 1 ≤ p) m.periods (subst (AllByRecursion (λ p. 1 ≤ p)) (sym (periods_are nodes t n mode.apps)) (some_periods mode.apps kept.apps))) c;
-      hyper_limit = omega (arith, hyper_is, kept.sizes.0);
-      task_period = λ a l. let f = found a l in subst (Contains m.periods) (sym (ap (λ y. (task_at m y).period) f.5 ∙ (stands f.0 f.1 f.2 f.3 f.4).period)) (period_in f.0 f.2 f.3);
-      wcet = λ a l.
+    round = round;
+    periods = λ p c. All-contains (λ p. 1 ≤ p) m.periods p (All-from_recursion (λ p. 1 ≤ p) m.periods (subst (AllByRecursion (λ p. 1 ≤ p)) (sym (periods_are nodes t n mode.apps)) (some_periods mode.apps kept.apps))) c;
+    hyper_limit = omega (arith, hyper_is, kept.sizes.hyper);
+    task_period = λ a l. let f = found a l in subst (Contains m.periods) (sym (ap (λ y. (task_at m y).period) f.5 ∙ (stands f.0 f.1 f.2 f.3 f.4).period)) (period_in f.0 f.2 f.3);
+    wcet = λ a l.
         let f = found a l in
         let s = stands f.0 f.1 f.2 f.3 f.4 in
         let w = All-from_recursion _ f.2.tasks (app_kept f.0 f.2 f.3).wcets f.1 no_raw_task f.4 in
         let e = ap (λ y. (task_at m y).wcet) f.5 in
         let p = ap (λ y. (task_at m y).period) f.5 in
         (omega (arith, e, s.wcet, w.0), omega (arith, e, p, s.wcet, s.period, w.1));
-      deadline = λ a l.
+    deadline = λ a l.
         let f = found a l in
         let e = ap (λ y. (task_at m y).deadline) f.5 in
-        let d = at_all (λ A. unsigned_abs A.deadline ≤ hyper_of mode) mode.apps kept.sizes.1 f.0 f.2 f.3 in
+        let d = at_all (λ A. unsigned_abs A.deadline ≤ hyper_of mode) mode.apps kept.sizes.deadlines f.0 f.2 f.3 in
         omega (arith, e, (stands f.0 f.1 f.2 f.3 f.4).deadline, d, hyper_is);
-      message_period = λ i l. let c = comes i l in subst (Contains m.periods) (sym c.is.period) (period_in c.k c.A c.at);
-      numbers = λ i j li lj e. omega (arith, e, (comes i li).is.number, (comes j lj).is.number);
-      producer = λ i l.
+    message_period = λ i l. let c = comes i l in subst (Contains m.periods) (sym c.is.period) (period_in c.k c.A c.at);
+    numbers = λ i j li lj e. omega (arith, e, (comes i li).is.number, (comes j lj).is.number);
+    producer = λ i l.
         let c = comes i l in
         let o = has_one c.k c.A (get_or c.A.messages c.j no_raw_message).from 4 (message_kept c.A c.j (app_kept c.k c.A c.at) c.within).0 in
         (o.0, subst (λ (x : List ℕ). Contains x o.0) (sym c.is.from) o.1);
-      consumer = λ i l.
+    consumer = λ i l.
         let c = comes i l in
         let o = has_one c.k c.A (get_or c.A.messages c.j no_raw_message).to 16 (message_kept c.A c.j (app_kept c.k c.A c.at) c.within).1 in
         (o.0, subst (λ (x : List ℕ). Contains x o.0) (sym c.is.to) o.1);
-      consumer_app = λ i b l h.
+    consumer_app = λ i b l h.
         let c = comes i l in
         let x = member c.k c.A c.at (get_or c.A.messages c.j no_raw_message).to 16 (message_kept c.A c.j (app_kept c.k c.A c.at) c.within).1 b (subst (λ (x : List ℕ). Contains x b) c.is.to h) in
         let s = stands c.k x.2.0 c.A c.at x.2.1 in
         (ap (λ y. (task_at m y).period) x.2.2 ∙ s.period ∙ sym c.is.period, ap (λ y. (task_at m y).deadline) x.2.2 ∙ s.deadline ∙ sym c.is.deadline);
-      rank = rank m inside acyclic;
-      ranks = λ a l. rank_low m inside acyclic a l;
-      edges = joins;
-    }
+    rank = rank m inside acyclic;
+    ranks = λ a l. rank_low m inside acyclic a l;
+    edges = joins;
+  }

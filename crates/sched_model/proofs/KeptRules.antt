@@ -1,47 +1,28 @@
 -- What a mode file that breaks no rule keeps, application by application
-use Rattle.std.proofs.Common.{◌≡◌, ℕ, zero, suc, ◌+◌, ◌<◌, ◌≤◌, Bool, true, false, not, ◌&&◌, List, [], ◌∷◌, ◌++◌, length, get_or, map, Contains, Option, Some, None, refl, sym, ◌∙◌, ap, subst, arith, ℤ, pos, negsuc, ◌≤ℤ◌, unsigned_abs, int_le, nat_lt, nat_le}
-use Rattle.std.specs.List.{AllByRecursion, list_any, flat_map}
-use Rattle.std.specs.Str.{bytes_eq}
+use Rattle.std.proofs.Common.{◌≡◌, ℕ, ◌+◌, ◌/◌, ◌<◌, ◌≤◌, true, false, not, List, [], ◌∷◌, ◌++◌, length, None, ◌∙◌, ap, arith, ℤ, pos, negsuc, ◌≤ℤ◌, unsigned_abs, int_le, nat_le, length-append, append-nil}
+use Rattle.std.specs.List.{AllByRecursion, flat_map}
 use Rattle.std.proofs.lemmas.Int.{ints}
 use Rattle.std.proofs.lemmas.Bool.{and_parts, ltb-true, leb-true, not-true}
-use Rattle.std.proofs.lemmas.List.{length_push, length-append, append-nil}
 use Rattle.std.proofs.lemmas.Grind.{flat_map-append}
 use borrow.Author.Differences.{le-true, at_most_in}
-use Rattle.app_graph.specs.declared.faults.GraphFault.{GraphFault}
-use Rattle.app_graph.specs.declared.faults.GraphFault.TheVariants.{OutOfRange, Repeated, Unknown, TwoSenders, Cycle, TooMany}
+use Rattle.app_graph.specs.declared.faults.GraphFault.TheVariants.{OutOfRange, Repeated, Unknown, Cycle, DeadlineLong, TooMany}
 use Rattle.app_graph.specs.declared.keys.Key.{Key}
-use Rattle.app_graph.specs.declared.keys.Key.TheVariants.{KSlots, KRound, KGap, KHost, KNodes, KMode, KApp, KPeriod, KDeadline, KTask, KMessage, KNode, KWcet, KBody, KFrom, KTo, KInputs}
-use Rattle.app_graph.specs.Spelling.{is_name}
+use Rattle.app_graph.specs.declared.keys.Key.TheVariants.{KSlots, KRound, KGap, KPeriod, KDeadline, KWcet, KFrom, KTo, KHyperperiod, KRounds, KRuns, KInstances, KDecisions}
 use Rattle.app_graph.specs.declared.raw.RawTask.{RawTask}
 use Rattle.app_graph.specs.declared.raw.RawMessage.{RawMessage}
 use Rattle.app_graph.specs.declared.raw.RawApp.{RawApp}
 use Rattle.app_graph.specs.declared.raw.RawMode.{RawMode}
 use Rattle.app_graph.specs.declared.raw.RawSet.{RawSet}
-use Rattle.app_graph.specs.Rules.{Rule, unless, first_of, each, each_after}
-use Rattle.app_graph.specs.ValueRules.{within, has_some, at_most, among, named, is_mode, is_app, is_task, is_message, listed, ends, tasks_named, on_one_node, inputs_of, task_values, message_values, has_cycle, app_values, size_values, mode_values, value_rules, hyper_of}
-
--- ---- rules that are kept
-kept_both : {F : Type 0} (r : Rule F) (rs : List (Rule F)) → first_of (r ∷ rs) ≡ None → (r ≡ None) × (first_of rs ≡ None)
-kept_both None rs e = (refl, e)
-kept_both (Some f) rs e = absurd cc
-
-kept_test : {F : Type 0} (b : Bool) (f : F) → unless b f ≡ None → b ≡ true
-kept_test true f e = refl
-kept_test false f e = absurd cc
+use Rattle.app_graph.specs.Rules.{Rule, unless, each, each_after}
+use Rattle.app_graph.specs.Spelling.{is_name}
+use Rattle.app_graph.specs.ValueRules.{within, has_some, at_most, among, is_task, listed, ends, task_rules, task_values, message_rules, message_values, has_cycle, own_rules, graph_rules, app_rules, app_values, hyper_of, runs_in, pairs_in, size_values, mode_rules, mode_values, round_rules, set_rules, value_rules}
+use Rattle.app_graph.proofs.Kept.{kept_parts, unless_kept, each_kept, all_kept, app_tasks, app_messages}
 
 kept_each : {F A : Type 0} (rule : A → Rule F) (xs : List A) → each rule xs ≡ None → AllByRecursion (λ x. rule x ≡ None) xs
 kept_each rule [] e = tt
 kept_each rule (x ∷ xs) e =
-    let a = kept_both (rule x) (each rule xs ∷ []) e in
-    (a.0, kept_each rule xs (kept_both (each rule xs) [] a.1).0)
-
--- each is kept after some earlier ones
-kept_after : {F A : Type 0} (rule : List A → A → Rule F) (before xs : List A) → each_after rule before xs ≡ None → AllByRecursion (λ x. (earlier : List A) × (rule earlier x ≡ None)) xs
-kept_after rule before [] e = tt
-kept_after {A} rule before (x ∷ xs) e =
-    let rest = each_after rule (before ++ x ∷ []) xs in
-    let a = kept_both (rule before x) (rest ∷ []) e in
-    ((before, a.0), kept_after rule (before ++ x ∷ []) xs (kept_both rest [] a.1).0)
+    let a = kept_parts (rule x) (each rule xs ∷ []) e in
+    (a.0, kept_each rule xs (kept_parts (each rule xs) [] a.1).0)
 
 mapped : {A : Type 0} (P Q : A → Type 0) → ((x : A) → P x → Q x) → (xs : List A) → AllByRecursion P xs → AllByRecursion Q xs
 mapped P Q f [] h = tt
@@ -80,208 +61,131 @@ kept_ends : (key : Key) (most : ℕ) (app : RawApp) (names : List (List ℕ)) �
 kept_ends key most app names e =
     let each_known = each_after (listed key (is_task app.tasks)) [] names in
     let rules = unless (at_most most names) (TooMany key) ∷ each_known ∷ [] in
-    let a = kept_both (unless (has_some names) (OutOfRange key)) rules e in
-    let b = kept_both (unless (at_most most names) (TooMany key)) (each_known ∷ []) a.1 in
+    let a = kept_parts (unless (has_some names) (OutOfRange key)) rules e in
+    let b = kept_parts (unless (at_most most names) (TooMany key)) (each_known ∷ []) a.1 in
     record {
-      some = ltb-true 0 (length names) (kept_test (has_some names) (OutOfRange key) a.0);
-      few = leb-true (length names) most (kept_test (at_most most names) (TooMany key) b.0);
-      known = mapped (λ n. (earlier : List (List ℕ)) × (listed key (is_task app.tasks) earlier n ≡ None)) (λ n. is_task app.tasks n ≡ true) (λ n h. known n h.0 h.1) names
-        (kept_after (listed key (is_task app.tasks)) [] names (kept_both each_known [] b.1).0);
+      some = ltb-true 0 (length names) (unless_kept (has_some names) (OutOfRange key) a.0);
+      few = leb-true (length names) most (unless_kept (at_most most names) (TooMany key) b.0);
+      known = each_kept (listed key (is_task app.tasks)) (λ n. is_task app.tasks n ≡ true) (λ earlier n h. known n earlier h) [] names (kept_parts each_known [] b.1).0;
     }
   where
     known : (n : List ℕ) (earlier : List (List ℕ)) → listed key (is_task app.tasks) earlier n ≡ None → is_task app.tasks n ≡ true
     known n earlier e =
         let last = unless (is_task app.tasks n) (Unknown n) in
         let second = unless (not (among n earlier)) (Repeated n) in
-        let a = kept_both (unless (is_name n) (OutOfRange key)) (second ∷ last ∷ []) e in
-        let b = kept_both second (last ∷ []) a.1 in
-        kept_test (is_task app.tasks n) (Unknown n) (kept_both last [] b.1).0
+        let a = kept_parts (unless (is_name n) (OutOfRange key)) (second ∷ last ∷ []) e in
+        let b = kept_parts second (last ∷ []) a.1 in
+        unless_kept (is_task app.tasks n) (Unknown n) (kept_parts last [] b.1).0
 
-kept_message : (app : RawApp) (m : RawMessage) (before : List RawMessage) → message_values app before m ≡ None → KeptEnds 4 app m.from × KeptEnds 16 app m.to
-kept_message app m before e =
-    let r4 = unless (nat_lt (length before) 64) (TooMany KMessage) ∷ [] in
-    let r3 = unless (on_one_node (tasks_named app m.from)) (TwoSenders m.name) ∷ r4 in
-    let r2 = ends KTo 16 app m.to ∷ r3 in
-    let a = kept_both (named m.name (is_message before m.name)) (ends KFrom 4 app m.from ∷ r2) e in
-    let b = kept_both (ends KFrom 4 app m.from) r2 a.1 in
-    let c = kept_both (ends KTo 16 app m.to) r3 b.1 in
-    (kept_ends KFrom 4 app m.from b.0, kept_ends KTo 16 app m.to c.0)
+kept_message : (app : RawApp) (before : List RawMessage) (m : RawMessage) → message_values app before m ≡ None → KeptEnds 4 app m.from × KeptEnds 16 app m.to
+kept_message app before m e = let k = all_kept (message_rules app before m) e in (kept_ends KFrom 4 app m.from k.1.0, kept_ends KTo 16 app m.to k.1.1.0)
 
 abs_some : (z : ℤ) → pos 1 ≤ℤ z → 1 ≤ unsigned_abs z
 abs_some (pos k) h = omega (arith, ints, h)
 abs_some (negsuc k) h = absurd (omega (arith, ints, h))
 
-kept_wcet : (set : RawSet) (app : RawApp) (t : RawTask) (before : List RawTask) → task_values set app before t ≡ None → (1 ≤ unsigned_abs t.wcet) × (unsigned_abs t.wcet ≤ unsigned_abs app.period)
-kept_wcet set app t before e =
-    let r5 = unless (nat_lt (length before) 128) (TooMany KTask) ∷ [] in
-    let r4 = unless (is_name t.body) (OutOfRange KBody) ∷ r5 in
-    let fits = unless (within (pos 1) app.period t.wcet) (OutOfRange KWcet) in
-    let known = unless (among t.node set.nodes) (Unknown t.node) in
-    let spelled = unless (is_name t.node) (OutOfRange KNode) in
-    let a = kept_both (named t.name (is_task before t.name)) (spelled ∷ known ∷ fits ∷ r4) e in
-    let b = kept_both spelled (known ∷ fits ∷ r4) a.1 in
-    let c = kept_both known (fits ∷ r4) b.1 in
-    let d = kept_both fits r4 c.1 in
-    let w = within_parts (pos 1) app.period t.wcet (kept_test (within (pos 1) app.period t.wcet) (OutOfRange KWcet) d.0) in
+kept_wcet : (set : RawSet) (app : RawApp) (before : List RawTask) (t : RawTask) → task_values set app before t ≡ None → (1 ≤ unsigned_abs t.wcet) × (unsigned_abs t.wcet ≤ unsigned_abs app.period)
+kept_wcet set app before t e =
+    let k = all_kept (task_rules set app before t) e in
+    let w = within_parts (pos 1) app.period t.wcet (unless_kept (within (pos 1) app.period t.wcet) (OutOfRange KWcet) k.1.1.1.0) in
     (abs_some t.wcet w.0, abs_below t.wcet app.period w.0 w.1)
-
--- the rules on its tasks and on its messages are kept
-app_rules : (set : RawSet) (earlier : List RawApp) (app : RawApp) → app_values set earlier app ≡ None →
-    (each_after (task_values set app) (flat_map (λ a. a.tasks) earlier) app.tasks ≡ None) × (each_after (message_values app) (flat_map (λ a. a.messages) earlier) app.messages ≡ None)
-app_rules set earlier app e =
-    let r8 = unless (not (has_cycle app)) (Cycle app.name) in
-    let r7 = each (λ t. unless (nat_le (inputs_of app t) 64) (TooMany KInputs)) app.tasks in
-    let r6 = each_after (message_values app) (flat_map (λ a. a.messages) earlier) app.messages in
-    let r5 = each_after (task_values set app) (flat_map (λ a. a.tasks) earlier) app.tasks in
-    let r4 = unless (has_some app.tasks) (OutOfRange KTask) in
-    let r3 = unless (within (pos 1) (pos 1000000000000) app.deadline) (OutOfRange KDeadline) in
-    let r2 = unless (within (pos 1) (pos 1000000000) app.period) (OutOfRange KPeriod) in
-    let a = kept_both (named app.name (is_app earlier app.name)) (r2 ∷ r3 ∷ r4 ∷ r5 ∷ r6 ∷ r7 ∷ r8 ∷ []) e in
-    let b = kept_both r2 (r3 ∷ r4 ∷ r5 ∷ r6 ∷ r7 ∷ r8 ∷ []) a.1 in
-    let c = kept_both r3 (r4 ∷ r5 ∷ r6 ∷ r7 ∷ r8 ∷ []) b.1 in
-    let d = kept_both r4 (r5 ∷ r6 ∷ r7 ∷ r8 ∷ []) c.1 in
-    let f = kept_both r5 (r6 ∷ r7 ∷ r8 ∷ []) d.1 in
-    ((f.0), (kept_both r6 (r7 ∷ r8 ∷ []) f.1).0)
 
 kept_app : (set : RawSet) (earlier : List RawApp) (app : RawApp) → app_values set earlier app ≡ None → KeptApp app
 kept_app set earlier app e =
-    let r8 = unless (not (has_cycle app)) (Cycle app.name) in
-    let r7 = each (λ t. unless (nat_le (inputs_of app t) 64) (TooMany KInputs)) app.tasks in
-    let r6 = each_after (message_values app) (flat_map (λ a. a.messages) earlier) app.messages in
-    let r5 = each_after (task_values set app) (flat_map (λ a. a.tasks) earlier) app.tasks in
-    let r4 = unless (has_some app.tasks) (OutOfRange KTask) in
-    let r3 = unless (within (pos 1) (pos 1000000000000) app.deadline) (OutOfRange KDeadline) in
-    let r2 = unless (within (pos 1) (pos 1000000000) app.period) (OutOfRange KPeriod) in
-    let a = kept_both (named app.name (is_app earlier app.name)) (r2 ∷ r3 ∷ r4 ∷ r5 ∷ r6 ∷ r7 ∷ r8 ∷ []) e in
-    let b = kept_both r2 (r3 ∷ r4 ∷ r5 ∷ r6 ∷ r7 ∷ r8 ∷ []) a.1 in
-    let c = kept_both r3 (r4 ∷ r5 ∷ r6 ∷ r7 ∷ r8 ∷ []) b.1 in
-    let d = kept_both r4 (r5 ∷ r6 ∷ r7 ∷ r8 ∷ []) c.1 in
-    let f = kept_both r5 (r6 ∷ r7 ∷ r8 ∷ []) d.1 in
-    let g = kept_both r6 (r7 ∷ r8 ∷ []) f.1 in
-    let h = kept_both r7 (r8 ∷ []) g.1 in
-    let i = kept_both r8 [] h.1 in
+    let k = all_kept (app_rules set earlier app) e in
+    let own = all_kept (own_rules earlier app) k.0 in
+    let graph = all_kept (graph_rules app) k.1.1.1.0 in
     record {
-      period = abs_within app.period 1000000000 (within_parts (pos 1) (pos 1000000000) app.period (kept_test (within (pos 1) (pos 1000000000) app.period) (OutOfRange KPeriod) b.0));
-      deadline = (abs_within app.deadline 1000000000000 (within_parts (pos 1) (pos 1000000000000) app.deadline (kept_test (within (pos 1) (pos 1000000000000) app.deadline) (OutOfRange KDeadline) c.0))).0;
-      wcets = mapped (λ t. (before : List RawTask) × (task_values set app before t ≡ None)) (λ t. (1 ≤ unsigned_abs t.wcet) × (unsigned_abs t.wcet ≤ unsigned_abs app.period))
-        (λ t w. kept_wcet set app t w.0 w.1) app.tasks (kept_after (task_values set app) (flat_map (λ x. x.tasks) earlier) app.tasks f.0);
-      messages = mapped (λ m. (before : List RawMessage) × (message_values app before m ≡ None)) (λ m. KeptEnds 4 app m.from × KeptEnds 16 app m.to)
-        (λ m w. kept_message app m w.0 w.1) app.messages (kept_after (message_values app) (flat_map (λ x. x.messages) earlier) app.messages g.0);
-      acyclic = not-true (has_cycle app) (kept_test (not (has_cycle app)) (Cycle app.name) i.0);
+      period = abs_within app.period 1000000000 (within_parts (pos 1) (pos 1000000000) app.period (unless_kept (within (pos 1) (pos 1000000000) app.period) (OutOfRange KPeriod) own.1.0));
+      deadline = (abs_within app.deadline 1000000000000 (within_parts (pos 1) (pos 1000000000000) app.deadline (unless_kept (within (pos 1) (pos 1000000000000) app.deadline) (OutOfRange KDeadline) own.1.1.0))).0;
+      wcets = each_kept (task_values set app) (λ t. (1 ≤ unsigned_abs t.wcet) × (unsigned_abs t.wcet ≤ unsigned_abs app.period)) (kept_wcet set app) (flat_map (λ a. a.tasks) earlier) app.tasks k.1.0;
+      messages = each_kept (message_values app) (λ m. KeptEnds 4 app m.from × KeptEnds 16 app m.to) (kept_message app) (flat_map (λ a. a.messages) earlier) app.messages k.1.1.0;
+      acyclic = not-true (has_cycle app) (unless_kept (not (has_cycle app)) (Cycle app.name) graph.1.0);
     }
 
 -- ---- how many tasks and messages a mode has
--- where each has fewer than most before it, they are most at most
-count_after : {F A : Type 0} (rule : List A → A → Rule F) (most : ℕ) → ((before : List A) (x : A) → rule before x ≡ None → length before < most) → (before xs : List A) → each_after rule before xs ≡ None → length before ≤ most → length before + length xs ≤ most
-count_after rule most few before [] e l = omega (arith, l)
-count_after {A} rule most few before (x ∷ xs) e l =
-    let rest = each_after rule (before ++ x ∷ []) xs in
-    let a = kept_both (rule before x) (rest ∷ []) e in
-    let push = length_push before x in
-    omega (arith, push, count_after rule most few (before ++ x ∷ []) xs (kept_both rest [] a.1).0 (omega (arith, push, few before x a.0)))
-
--- the same for what applications have
+-- where each application keeps what the earlier ones and it have within a number, all are within it
 count_apps : {A : Type 0} (part : RawApp → List A) (most : ℕ) (set : RawSet) → ((earlier : List RawApp) (a : RawApp) → app_values set earlier a ≡ None → length (flat_map part earlier) ≤ most → length (flat_map part earlier) + length (part a) ≤ most) →
     (earlier apps : List RawApp) → each_after (app_values set) earlier apps ≡ None → length (flat_map part earlier) ≤ most → length (flat_map part earlier) + length (flat_map part apps) ≤ most
 count_apps part most set one earlier [] e l = omega (arith, l)
 count_apps part most set one earlier (a ∷ apps) e l =
     let rest = each_after (app_values set) (earlier ++ a ∷ []) apps in
-    let w = kept_both (app_values set earlier a) (rest ∷ []) e in
+    let w = kept_parts (app_values set earlier a) (rest ∷ []) e in
     let here = one earlier a w.0 l in
     let join = ap length (flat_map-append part earlier (a ∷ []) ∙ ap (λ ys. flat_map part earlier ++ ys) (append-nil (part a))) ∙ length-append (flat_map part earlier) (part a) in
-    let more = count_apps part most set one (earlier ++ a ∷ []) apps (kept_both rest [] w.1).0 (omega (arith, join, here)) in
+    let more = count_apps part most set one (earlier ++ a ∷ []) apps (kept_parts rest [] w.1).0 (omega (arith, join, here)) in
     omega (arith, join, more, length-append (part a) (flat_map part apps))
 
-task_counted : (set : RawSet) (earlier : List RawApp) (app : RawApp) → app_values set earlier app ≡ None → length (flat_map (λ (a : RawApp). a.tasks) earlier) ≤ 128 → length (flat_map (λ (a : RawApp). a.tasks) earlier) + length app.tasks ≤ 128
-task_counted set earlier app e l =
-    count_after (task_values set app) 128 (λ before t k. ltb-true (length before) 128 (last_rule t before k)) (flat_map (λ (a : RawApp). a.tasks) earlier) app.tasks (app_rules set earlier app e).0 l
-  where
-    last_rule : (t : RawTask) (before : List RawTask) → task_values set app before t ≡ None → nat_lt (length before) 128 ≡ true
-    last_rule t before e =
-        let r5 = unless (nat_lt (length before) 128) (TooMany KTask) in
-        let r4 = unless (is_name t.body) (OutOfRange KBody) in
-        let r3 = unless (within (pos 1) app.period t.wcet) (OutOfRange KWcet) in
-        let r2 = unless (among t.node set.nodes) (Unknown t.node) in
-        let r1 = unless (is_name t.node) (OutOfRange KNode) in
-        let a = kept_both (named t.name (is_task before t.name)) (r1 ∷ r2 ∷ r3 ∷ r4 ∷ r5 ∷ []) e in
-        let b = kept_both r1 (r2 ∷ r3 ∷ r4 ∷ r5 ∷ []) a.1 in
-        let c = kept_both r2 (r3 ∷ r4 ∷ r5 ∷ []) b.1 in
-        let d = kept_both r3 (r4 ∷ r5 ∷ []) c.1 in
-        let f = kept_both r4 (r5 ∷ []) d.1 in
-        kept_test (nat_lt (length before) 128) (TooMany KTask) (kept_both r5 [] f.1).0
-
-message_counted : (set : RawSet) (earlier : List RawApp) (app : RawApp) → app_values set earlier app ≡ None → length (flat_map (λ (a : RawApp). a.messages) earlier) ≤ 64 → length (flat_map (λ (a : RawApp). a.messages) earlier) + length app.messages ≤ 64
-message_counted set earlier app e l =
-    count_after (message_values app) 64 (λ before m k. ltb-true (length before) 64 (last_rule m before k)) (flat_map (λ (a : RawApp). a.messages) earlier) app.messages (app_rules set earlier app e).1 l
-  where
-    last_rule : (m : RawMessage) (before : List RawMessage) → message_values app before m ≡ None → nat_lt (length before) 64 ≡ true
-    last_rule m before e =
-        let r4 = unless (nat_lt (length before) 64) (TooMany KMessage) in
-        let r3 = unless (on_one_node (tasks_named app m.from)) (TwoSenders m.name) in
-        let a = kept_both (named m.name (is_message before m.name)) (ends KFrom 4 app m.from ∷ ends KTo 16 app m.to ∷ r3 ∷ r4 ∷ []) e in
-        let b = kept_both (ends KFrom 4 app m.from) (ends KTo 16 app m.to ∷ r3 ∷ r4 ∷ []) a.1 in
-        let c = kept_both (ends KTo 16 app m.to) (r3 ∷ r4 ∷ []) b.1 in
-        let d = kept_both r3 (r4 ∷ []) c.1 in
-        kept_test (nat_lt (length before) 64) (TooMany KMessage) (kept_both r4 [] d.1).0
-
 -- ---- a mode, and the set
-pub record KeptMode (mode : RawMode) : Type 0 where
+pub record KeptSizes (set : RawSet) (mode : RawMode) : Type 0 where
+  pub hyper : hyper_of mode ≤ 1000000000000
+  pub deadlines : AllByRecursion (λ a. unsigned_abs a.deadline ≤ hyper_of mode) mode.apps
+  pub rounds : hyper_of mode / unsigned_abs set.round ≤ 256
+  pub runs : runs_in (hyper_of mode) (λ a. length a.tasks) mode.apps ≤ 4096
+  pub instances : runs_in (hyper_of mode) (λ a. length a.messages) mode.apps ≤ 512
+  pub decisions : runs_in (hyper_of mode) (λ a. length a.messages) mode.apps + pairs_in (flat_map (λ a. a.tasks) mode.apps) ≤ 4096
+
+pub record KeptMode (set : RawSet) (mode : RawMode) : Type 0 where
   pub apps : AllByRecursion KeptApp mode.apps
   pub tasks : length (flat_map (λ (a : RawApp). a.tasks) mode.apps) ≤ 128
   pub messages : length (flat_map (λ (a : RawApp). a.messages) mode.apps) ≤ 64
-  pub sizes : (hyper_of mode ≤ 1000000000000) × AllByRecursion (λ a. unsigned_abs a.deadline ≤ hyper_of mode) mode.apps
+  pub sizes : KeptSizes set mode
 
-kept_sizes : (set : RawSet) (mode : RawMode) → size_values set mode ≡ None → (hyper_of mode ≤ 1000000000000) × AllByRecursion (λ a. unsigned_abs a.deadline ≤ hyper_of mode) mode.apps
-kept_sizes set mode e = ?
+kept_deadlines : (h : ℕ) (apps : List RawApp) → each (λ a. unless (nat_le (unsigned_abs a.deadline) h) (DeadlineLong a.name)) apps ≡ None → AllByRecursion (λ a. unsigned_abs a.deadline ≤ h) apps
+kept_deadlines h apps e =
+    mapped (λ a. unless (nat_le (unsigned_abs a.deadline) h) (DeadlineLong a.name) ≡ None) (λ a. unsigned_abs a.deadline ≤ h)
+    (λ a k. leb-true (unsigned_abs a.deadline) h (unless_kept (nat_le (unsigned_abs a.deadline) h) (DeadlineLong a.name) k)) apps (kept_each (λ a. unless (nat_le (unsigned_abs a.deadline) h) (DeadlineLong a.name)) apps e)
 
-kept_mode : (set : RawSet) (earlier : List RawMode) (mode : RawMode) → mode_values set earlier mode ≡ None → KeptMode mode
-kept_mode set earlier mode e =
-    let r4 = size_values set mode in
-    let r3 = each_after (app_values set) [] mode.apps in
-    let r2 = unless (has_some mode.apps) (OutOfRange KApp) in
-    let a = kept_both (named mode.name (is_mode earlier mode.name)) (r2 ∷ r3 ∷ r4 ∷ []) e in
-    let b = kept_both r2 (r3 ∷ r4 ∷ []) a.1 in
-    let c = kept_both r3 (r4 ∷ []) b.1 in
+kept_sizes : (set : RawSet) (mode : RawMode) → size_values set mode ≡ None → KeptSizes set mode
+kept_sizes set mode e =
+    let h = hyper_of mode in
+    let r6 = unless (nat_le (runs_in h (λ a. length a.messages) mode.apps + pairs_in (flat_map (λ a. a.tasks) mode.apps)) 4096) (TooMany KDecisions) in
+    let r5 = unless (nat_le (runs_in h (λ a. length a.messages) mode.apps) 512) (TooMany KInstances) in
+    let r4 = unless (nat_le (runs_in h (λ a. length a.tasks) mode.apps) 4096) (TooMany KRuns) in
+    let r3 = unless (nat_le (h / unsigned_abs set.round) 256) (TooMany KRounds) in
+    let r2 = each (λ a. unless (nat_le (unsigned_abs a.deadline) h) (DeadlineLong a.name)) mode.apps in
+    let r1 = unless (nat_le h 1000000000000) (TooMany KHyperperiod) in
+    let a = kept_parts r1 (r2 ∷ r3 ∷ r4 ∷ r5 ∷ r6 ∷ []) e in
+    let b = kept_parts r2 (r3 ∷ r4 ∷ r5 ∷ r6 ∷ []) a.1 in
+    let c = kept_parts r3 (r4 ∷ r5 ∷ r6 ∷ []) b.1 in
+    let d = kept_parts r4 (r5 ∷ r6 ∷ []) c.1 in
+    let f = kept_parts r5 (r6 ∷ []) d.1 in
+    let g = kept_parts r6 [] f.1 in
     record {
-      apps = mapped (λ x. (before : List RawApp) × (app_values set before x ≡ None)) KeptApp (λ x w. kept_app set w.0 x w.1) mode.apps (kept_after (app_values set) [] mode.apps c.0);
-      tasks = omega (arith, count_apps (λ (a : RawApp). a.tasks) 128 set (task_counted set) [] mode.apps c.0 (omega arith));
-      messages = omega (arith, count_apps (λ (a : RawApp). a.messages) 64 set (message_counted set) [] mode.apps c.0 (omega arith));
-      sizes = kept_sizes set mode (kept_both r4 [] c.1).0;
+      hyper = leb-true h 1000000000000 (unless_kept (nat_le h 1000000000000) (TooMany KHyperperiod) a.0);
+      deadlines = kept_deadlines h mode.apps b.0;
+      rounds = leb-true (h / unsigned_abs set.round) 256 (unless_kept (nat_le (h / unsigned_abs set.round) 256) (TooMany KRounds) c.0);
+      runs = leb-true (runs_in h (λ a. length a.tasks) mode.apps) 4096 (unless_kept (nat_le (runs_in h (λ a. length a.tasks) mode.apps) 4096) (TooMany KRuns) d.0);
+      instances = leb-true (runs_in h (λ a. length a.messages) mode.apps) 512 (unless_kept (nat_le (runs_in h (λ a. length a.messages) mode.apps) 512) (TooMany KInstances) f.0);
+      decisions = leb-true (runs_in h (λ a. length a.messages) mode.apps + pairs_in (flat_map (λ a. a.tasks) mode.apps)) 4096
+          (unless_kept (nat_le (runs_in h (λ a. length a.messages) mode.apps + pairs_in (flat_map (λ a. a.tasks) mode.apps)) 4096) (TooMany KDecisions) g.0);
+    }
+
+kept_mode : (set : RawSet) (earlier : List RawMode) (mode : RawMode) → mode_values set earlier mode ≡ None → KeptMode set mode
+kept_mode set earlier mode e =
+    let k = all_kept (mode_rules set earlier mode) e in
+    record {
+      apps = each_kept (app_values set) KeptApp (kept_app set) [] mode.apps k.1.1.0;
+      tasks = omega (arith, count_apps (λ (a : RawApp). a.tasks) 128 set (app_tasks set) [] mode.apps k.1.1.0 (omega arith));
+      messages = omega (arith, count_apps (λ (a : RawApp). a.messages) 64 set (app_messages set) [] mode.apps k.1.1.0 (omega arith));
+      sizes = kept_sizes set mode k.1.1.1.0;
     }
 
 pub record KeptSet (set : RawSet) : Type 0 where
   pub slots : (1 ≤ unsigned_abs set.slots) × (unsigned_abs set.slots ≤ 32)
   pub round : (1 ≤ unsigned_abs set.round) × (unsigned_abs set.round ≤ 1000000000)
   pub gap : (unsigned_abs set.round ≤ unsigned_abs set.gap) × (unsigned_abs set.gap ≤ 1000000000)
-  pub modes : AllByRecursion KeptMode set.modes
+  pub modes : AllByRecursion (KeptMode set) set.modes
 
 pub kept_set : (set : RawSet) → value_rules set ≡ None → KeptSet set
 kept_set set e =
-    let r11 = each_after (mode_values set) [] set.modes in
-    let r10 = unless (at_most 8 set.modes) (TooMany KMode) in
-    let r9 = unless (has_some set.modes) (OutOfRange KMode) in
-    let r8 = unless (among set.host set.nodes) (Unknown set.host) in
-    let r7 = unless (is_name set.host) (OutOfRange KHost) in
-    let r6 = each_after (listed KNodes (λ n. true)) [] set.nodes in
-    let r5 = unless (at_most 64 set.nodes) (TooMany KNodes) in
-    let r4 = unless (has_some set.nodes) (OutOfRange KNodes) in
-    let r3 = unless (within set.round (pos 1000000000) set.gap) (OutOfRange KGap) in
-    let r2 = unless (within (pos 1) (pos 1000000000) set.round) (OutOfRange KRound) in
-    let a = kept_both (unless (within (pos 1) (pos 32) set.slots) (OutOfRange KSlots)) (r2 ∷ r3 ∷ r4 ∷ r5 ∷ r6 ∷ r7 ∷ r8 ∷ r9 ∷ r10 ∷ r11 ∷ []) e in
-    let b = kept_both r2 (r3 ∷ r4 ∷ r5 ∷ r6 ∷ r7 ∷ r8 ∷ r9 ∷ r10 ∷ r11 ∷ []) a.1 in
-    let c = kept_both r3 (r4 ∷ r5 ∷ r6 ∷ r7 ∷ r8 ∷ r9 ∷ r10 ∷ r11 ∷ []) b.1 in
-    let d = kept_both r4 (r5 ∷ r6 ∷ r7 ∷ r8 ∷ r9 ∷ r10 ∷ r11 ∷ []) c.1 in
-    let f = kept_both r5 (r6 ∷ r7 ∷ r8 ∷ r9 ∷ r10 ∷ r11 ∷ []) d.1 in
-    let g = kept_both r6 (r7 ∷ r8 ∷ r9 ∷ r10 ∷ r11 ∷ []) f.1 in
-    let h = kept_both r7 (r8 ∷ r9 ∷ r10 ∷ r11 ∷ []) g.1 in
-    let i = kept_both r8 (r9 ∷ r10 ∷ r11 ∷ []) h.1 in
-    let j = kept_both r9 (r10 ∷ r11 ∷ []) i.1 in
-    let k = kept_both r10 (r11 ∷ []) j.1 in
-    let round = within_parts (pos 1) (pos 1000000000) set.round (kept_test (within (pos 1) (pos 1000000000) set.round) (OutOfRange KRound) b.0) in
-    let gap = within_parts set.round (pos 1000000000) set.gap (kept_test (within set.round (pos 1000000000) set.gap) (OutOfRange KGap) c.0) in
+    let k = all_kept (set_rules set) e in
+    let r = all_kept (round_rules set) k.0 in
+    let round = within_parts (pos 1) (pos 1000000000) set.round (unless_kept (within (pos 1) (pos 1000000000) set.round) (OutOfRange KRound) r.1.0) in
+    let gap = within_parts set.round (pos 1000000000) set.gap (unless_kept (within set.round (pos 1000000000) set.gap) (OutOfRange KGap) r.1.1.0) in
     record {
-      slots = abs_within set.slots 32 (within_parts (pos 1) (pos 32) set.slots (kept_test (within (pos 1) (pos 32) set.slots) (OutOfRange KSlots) a.0));
+      slots = abs_within set.slots 32 (within_parts (pos 1) (pos 32) set.slots (unless_kept (within (pos 1) (pos 32) set.slots) (OutOfRange KSlots) r.0));
       round = abs_within set.round 1000000000 round;
       gap = (abs_below set.round set.gap round.0 gap.0, (abs_within set.gap 1000000000 (omega (arith, ints, round.0, gap.0), gap.1)).1);
-      modes = mapped (λ m. (before : List RawMode) × (mode_values set before m ≡ None)) KeptMode (λ m w. kept_mode set w.0 m w.1) set.modes (kept_after (mode_values set) [] set.modes (kept_both r11 [] k.1).0);
+      modes = each_kept (mode_values set) (KeptMode set) (kept_mode set) [] set.modes k.1.1.1.1.0;
     }

@@ -1,5 +1,5 @@
 -- Tasks that no walk leads back to have ranks that rise along edges: the length of the longest walk to each
-use Rattle.std.proofs.Common.{◌≡◌, ℕ, zero, suc, ◌+◌, ◌-◌, ◌<◌, ◌≤◌, Bool, true, false, cond, ◌&&◌, List, length, refl, sym, ◌∙◌, ap, subst, arith, ◌⊎◌, inl, inr, ⊎_elim}
+use Rattle.std.proofs.Common.{◌≡◌, ℕ, zero, suc, ◌+◌, ◌-◌, ◌<◌, ◌≤◌, Bool, true, false, cond, ◌&&◌, length, refl, sym, ◌∙◌, ap, subst, arith, ⊎_elim}
 use Rattle.std.specs.List.{list_any}
 use Rattle.std.proofs.lemmas.Bool.{cases_lt, cases_Bool, cond-true, cond-false, and_parts, and_from, both_ways}
 use Rattle.tick_num.proofs.Pigeons.{two_alike}
@@ -23,30 +23,30 @@ unfolding longest
 longest_most m zero b = omega arith
 longest_most m (suc n) b =
     ⊎_elim
-      (λ (yes : leads_to m (suc n) b ≡ true). omega (arith, cond-true (leads_to m (suc n) b) (suc n) (longest m n b) yes))
-      (λ (no : leads_to m (suc n) b ≡ false). omega (arith, cond-false (leads_to m (suc n) b) (suc n) (longest m n b) no, longest_most m n b))
-      (cases_Bool (leads_to m (suc n) b))
+    (λ (yes : leads_to m (suc n) b ≡ true). omega (arith, cond-true (leads_to m (suc n) b) (suc n) (longest m n b) yes))
+    (λ (no : leads_to m (suc n) b ≡ false). omega (arith, cond-false (leads_to m (suc n) b) (suc n) (longest m n b) no, longest_most m n b))
+    (cases_Bool (leads_to m (suc n) b))
 
 longest_leads : (m : PlainMode) (n b : ℕ) → leads_to m (longest m n b) b ≡ true
 unfolding longest leads_to
 longest_leads m zero b = refl
 longest_leads m (suc n) b =
     ⊎_elim
-      (λ (yes : leads_to m (suc n) b ≡ true). ap (λ k. leads_to m k b) (cond-true (leads_to m (suc n) b) (suc n) (longest m n b) yes) ∙ yes)
-      (λ (no : leads_to m (suc n) b ≡ false). ap (λ k. leads_to m k b) (cond-false (leads_to m (suc n) b) (suc n) (longest m n b) no) ∙ longest_leads m n b)
-      (cases_Bool (leads_to m (suc n) b))
+    (λ (yes : leads_to m (suc n) b ≡ true). ap (λ k. leads_to m k b) (cond-true (leads_to m (suc n) b) (suc n) (longest m n b) yes) ∙ yes)
+    (λ (no : leads_to m (suc n) b ≡ false). ap (λ k. leads_to m k b) (cond-false (leads_to m (suc n) b) (suc n) (longest m n b) no) ∙ longest_leads m n b)
+    (cases_Bool (leads_to m (suc n) b))
 
 longest_least : (m : PlainMode) (n k b : ℕ) → k ≤ n → leads_to m k b ≡ true → k ≤ longest m n b
 unfolding longest
 longest_least m zero k b l e = omega (arith, l)
 longest_least m (suc n) k b l e =
     ⊎_elim
-      (λ (yes : leads_to m (suc n) b ≡ true). omega (arith, l, cond-true (leads_to m (suc n) b) (suc n) (longest m n b) yes))
-      (λ (no : leads_to m (suc n) b ≡ false). ⊎_elim
-        (λ (less : k < suc n). omega (arith, cond-false (leads_to m (suc n) b) (suc n) (longest m n b) no, longest_least m n k b (omega (arith, less)) e))
-        (λ (ge : suc n ≤ k). absurd (both_ways (leads_to m (suc n) b) no (subst (λ x. leads_to m x b ≡ true) (let s : k ≡ suc n = omega (arith, ge, l) in s) e)))
-        (cases_lt k (suc n)))
-      (cases_Bool (leads_to m (suc n) b))
+    (λ (yes : leads_to m (suc n) b ≡ true). omega (arith, l, cond-true (leads_to m (suc n) b) (suc n) (longest m n b) yes))
+    (λ (no : leads_to m (suc n) b ≡ false). ⊎_elim
+    (λ (less : k < suc n). omega (arith, cond-false (leads_to m (suc n) b) (suc n) (longest m n b) no, longest_least m n k b (omega (arith, less)) e))
+    (λ (ge : suc n ≤ k). absurd (both_ways (leads_to m (suc n) b) no (subst (λ x. leads_to m x b ≡ true) (let s : k ≡ suc n = omega (arith, ge, l) in s) e)))
+    (cases_lt k (suc n)))
+    (cases_Bool (leads_to m (suc n) b))
 
 -- the tasks of such a walk, the last one first
 put : ℕ → (ℕ → ℕ) → ℕ → ℕ
@@ -103,6 +103,6 @@ module _ (m : PlainMode) (inside : (a b : ℕ) → IsEdge m a b → (a < length 
       let k = longest m (n - 1) a in
       let long : leads_to m (suc k) b ≡ true = passes_below (λ c. edge m c b && leads_to m k c) n a l.0 (and_from (edge m a b) (leads_to m k a) e (longest_leads m (n - 1) a)) in
       ⊎_elim
-        (λ (fits : suc k < n). omega (arith, longest_least m (n - 1) (suc k) b (omega (arith, fits)) long))
-        (λ (over : n ≤ suc k). absurd (none_long b l.1 (subst (λ x. leads_to m x b ≡ true) (let s : suc k ≡ n = omega (arith, over, longest_most m (n - 1) a, l.0) in s) long)))
-        (cases_lt (suc k) n)
+      (λ (fits : suc k < n). omega (arith, longest_least m (n - 1) (suc k) b (omega (arith, fits)) long))
+      (λ (over : n ≤ suc k). absurd (none_long b l.1 (subst (λ x. leads_to m x b ≡ true) (let s : suc k ≡ n = omega (arith, over, longest_most m (n - 1) a, l.0) in s) long)))
+      (cases_lt (suc k) n)

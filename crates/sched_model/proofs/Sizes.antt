@@ -1,9 +1,8 @@
 -- How many tasks, messages and message instances the plain mode of a mode has
-use Rattle.std.proofs.Common.{◌≡◌, ℕ, zero, suc, ◌+◌, ◌*◌, ◌/◌, ◌<◌, ◌≤◌, List, [], ◌∷◌, ◌++◌, length, get_or, map, take, refl, sym, ◌∙◌, ap, subst, arith, unsigned_abs, length-append, append-nil}
+use Rattle.std.proofs.Common.{◌≡◌, ℕ, zero, suc, ◌+◌, ◌*◌, ◌/◌, ◌≤◌, List, [], ◌∷◌, length, get_or, map, take, refl, ◌∙◌, ap, arith, unsigned_abs, length-append}
 use Rattle.std.specs.List.{sum_by, flat_map}
 use Rattle.std.proofs.lemmas.List.Sums.{sum_by-append}
 use Rattle.std.proofs.lemmas.List.{length-map, take_more, take_all}
-use Rattle.std.proofs.lemmas.Grind.{flat_map-append}
 use Rattle.app_graph.specs.declared.raw.RawMessage.{RawMessage}
 use Rattle.app_graph.specs.declared.raw.RawTask.{RawTask}
 use Rattle.app_graph.specs.declared.raw.RawApp.{RawApp}
@@ -14,10 +13,10 @@ use Rattle.app_graph.specs.declared.mode_set.Mode.{Mode}
 use Rattle.app_graph.specs.declared.mode_set.ModeSet.{ModeSet}
 use Rattle.app_graph.specs.Numbering.{tasks_from, messages_from, apps_from}
 use Rattle.sched_model.specs.Numbers.{below}
-use Rattle.sched_model.specs.PlainMode.{PlainMode, PlainMessage, TaskOfApp, hyper, no_message, instance_count, instances, message_at, tasks_of, place_of, plain_messages, plain_mode}
+use Rattle.sched_model.specs.PlainMode.{PlainMessage, TaskOfApp, hyper, no_message, instance_count, instances, tasks_of, place_of, plain_messages, plain_mode}
 
 sum_by-cons : {X : Type 0} (f : X → ℕ) (x : X) (xs : List X) → sum_by f (x ∷ xs) ≡ f x + sum_by f xs
-sum_by-cons f x xs = refl
+sum_by-cons f x xs = let e = sum_by-append f (x ∷ []) xs in omega (arith, e)
 
 -- a message of an application, as one of the mode
 abbrev plain : List TaskOfApp → ℕ → ℕ → Message → PlainMessage
@@ -72,8 +71,14 @@ module _ (nodes : List (List ℕ)) where
       let app : App = record { name = a.name; period = a.period; deadline = a.deadline; tasks = tasks_from nodes t a.tasks; messages = messages_from t a.tasks n a.messages } in
       let here = map (in_app i app) (tasks_from nodes t a.tasks) in
       let rest = task_total (suc i) (t + length a.tasks) (n + length a.messages) apps in
-      omega (arith, length-append here (tasks_of (suc i) (apps_from nodes (t + length a.tasks) (n + length a.messages) apps)), length-append a.tasks (flat_map (λ (x : RawApp). x.tasks) apps),
-        length-map (tasks_from nodes t a.tasks) (in_app i app), length-tasks t a.tasks, rest)
+      omega (
+        arith,
+        length-append here (tasks_of (suc i) (apps_from nodes (t + length a.tasks) (n + length a.messages) apps)),
+        length-append a.tasks (flat_map (λ (x : RawApp). x.tasks) apps),
+        length-map (tasks_from nodes t a.tasks) (in_app i app),
+        length-tasks t a.tasks,
+        rest,
+      )
 
   pub message_total : (ts : List TaskOfApp) (t n : ℕ) (apps : List RawApp) → length (plain_messages ts (apps_from nodes t n apps)) ≡ length (flat_map (λ (a : RawApp). a.messages) apps)
   message_total ts t n [] = refl

@@ -1,6 +1,6 @@
 -- How large a mode may be. Each mode of an accepted mode file is within these limits.
-use Rattle.std.specs.Prelude.{ℕ, ◌<◌, ◌≤◌, length, sum_by, Contains}
-use Rattle.sched_model.specs.PlainMode.{PlainMode, hyper, instances, most_rounds, message_at}
+use Rattle.std.specs.Prelude.{ℕ, ◌<◌, ◌≤◌, length, Contains}
+use Rattle.sched_model.specs.PlainMode.{PlainMode, instances, most_rounds, message_at}
 
 -- slots, times, and how many tasks, messages, rounds and message instances there are
 pub record IsLimited (m : PlainMode) : Type 0 where
