@@ -110,3 +110,75 @@ module _ (m : PlainMode) (r : ℕ) (ok : IsValid m) (lim : IsLimited m) (some : 
       empty z (k, l, e) = omega (arith, l)
       divisor_most : (x y : ℕ) → 1 ≤ x → 1 ≤ y → x ≤ 1000000000 → gcd x y ≤ 1000000000
       divisor_most x y p q h = let k = le_of_dvd p (gcd_is x y p q).0 in omega (arith, h, k)
+
+  -- ---- the instance of a message
+  module _ (p : List ℤ) (fits : length p ≤ length (decisions m)) (ch : Chosen m r p) where
+    among : (i k : ℕ) → i < length m.messages → k < instance_count m (message_at m i) → place m i k < length p →
+      Contains (alternatives_of m r (serve i k) (take (place m i k) p)) (get_or p (place m i k) (pos 0))
+    among i k li lk l =
+        let x = place m i k in
+        let e : length (take x p) ≡ x = length-take-le x p (omega (arith, l)) in
+        subst (λ (d : Decision). Contains (alternatives_of m r d (take x p)) (get_or p x (pos 0))) (ap (λ y. get_or (decisions m) y (order 0 0)) e ∙ decision_at m i k (order 0 0) li lk) (ch x l)
+
+    first_bounds : (i : ℕ) → i < length m.messages → 0 < instance_count m (message_at m i) → place m i 0 < length p →
+      let msg = message_at m i in (pos 1 ≤ℤ get_or p (place m i 0) (pos 0)) × (get_or p (place m i 0) (pos 0) ≤ℤ pos (r * ((msg.period + msg.deadline) / hyper m + 1)))
+    first_bounds i li lk l = let msg = message_at m i in span_bounds (pos 1) (pos (r * ((msg.period + msg.deadline) / hyper m + 1))) (get_or p (place m i 0) (pos 0)) (among i 0 li lk l)
+
+    serve_bounds : (i k : ℕ) → i < length m.messages → k < instance_count m (message_at m i) → place m i k < length p →
+      let msg = message_at m i in (pos 1 ≤ℤ get_or p (place m i k) (pos 0)) × (get_or p (place m i k) (pos 0) ≤ℤ (pos (r * ((msg.period + msg.deadline) / hyper m + 1)) +ℤ pos r))
+    serve_bounds i zero li lk l = let b = first_bounds i li lk l in (b.0, omega (arith, ints, b.1))
+    serve_bounds i (suc k) li lk l =
+        let x = place m i (suc k) in
+        let q = take x p in
+        let e : length q ≡ x = length-take-le x p (omega (arith, l)) in
+        let b = span_bounds (get_or q (length q - 1) (pos 0) +ℤ pos 1) (get_or q (length q - suc k) (pos 0) +ℤ pos r -ℤ pos 1) (get_or p x (pos 0)) (among i (suc k) li lk l) in
+        let before : get_or q (length q - 1) (pos 0) ≡ get_or p (place m i k) (pos 0) =
+          ap (λ y. get_or q y (pos 0)) (let s : length q - 1 ≡ place m i k = omega (arith, e) in s) ∙ get_or-take x p (place m i k) (pos 0) (omega arith) in
+        let begin : get_or q (length q - suc k) (pos 0) ≡ get_or p (place m i 0) (pos 0) =
+          ap (λ y. get_or q y (pos 0)) (let s : length q - suc k ≡ place m i 0 = omega (arith, e) in s) ∙ get_or-take x p (place m i 0) (pos 0) (omega arith) in
+        let a = first_bounds i li (omega (arith, lk)) (omega (arith, l)) in
+        let c = serve_bounds i k li (omega (arith, lk)) (omega (arith, l)) in
+        (omega (arith, ints, b, before, c.0), omega (arith, ints, b, begin, a.1))
+
+    serve_small : (i k : ℕ) → i < length m.messages → k < instance_count m (message_at m i) → place m i k < length p → AllByRecursion IsSmall (chosen m r (serve i k) (get_or p (place m i k) (pos 0)))
+    serve_small i k li lk l =
+        let msg = message_at m i in
+        let h = hyper m in
+        let w = (msg.period + msg.deadline) / h in
+        let g = natural (get_or p (place m i k) (pos 0)) in
+        let b = serve_bounds i k li lk l in
+        let is = natural_is (get_or p (place m i k) (pos 0)) b.0 in
+        let low : (g - 1) / r < w + 2 = quotient_low (g - 1) r (w + 2) some (omega (arith, ints, b, is)) in
+        let turns : (g - 1) / r * h ≤ (w + 1) * h = mul-le-mul_right h (omega (arith, low)) in
+        let whole = div-add-mod' (msg.period + msg.deadline) h in
+        let t = ok.consumer i li in
+        let a0 = ok.producer i li in
+        let lt = (ok.edges a0.0 t.0 (message_edge m i a0.0 t.0 li a0.1 t.1)).to in
+        let app = ok.consumer_app i t.0 li t.1 in
+        let windows : k * msg.period ≤ instance_count m msg * msg.period = mul-le-mul_right msg.period (omega (arith, lk)) in
+        let fill = period_divides m msg.period (ok.periods _ (ok.message_period i li)) (ok.message_period i li) in
+        let period = (lim.periods _ (ok.message_period i li)).1 in
+        let deadline : msg.deadline ≤ h = omega (arith, app.1, ok.deadline t.0 lt) in
+        let late : (g - 1) / r * h ≤ 2001000000000 = omega (arith, turns, whole, period, deadline, ok.hyper_limit) in
+        let early : k * msg.period ≤ 1000000000000 = omega (arith, windows, fill, ok.hyper_limit) in
+        ((omega (arith, ints, late, early), omega (arith, ints, late, early)), ((omega (arith, ints, late, early, lim.round), omega (arith, ints, late, early, lim.round)), tt))
+      where
+        natural_is : (z : ℤ) → pos 1 ≤ℤ z → pos (natural z) ≡ z
+        natural_is (pos n) h = refl
+        natural_is (negsuc n) h = absurd (omega (arith, ints, h))
+
+    choice_small : (x : ℕ) → x < length (decisions m) → x < length p → AllByRecursion IsSmall (chosen m r (get_or (decisions m) x (order 0 0)) (get_or p x (pos 0)))
+    choice_small x l k =
+        ⊎_elim
+          (λ (w : (i j : ℕ) × (i < length m.messages) × (j < instance_count m (message_at m i)) × (x ≡ place m i j)).
+            subst (λ y. AllByRecursion IsSmall (chosen m r (get_or (decisions m) y (order 0 0)) (get_or p y (pos 0)))) (sym w.4)
+              (subst (λ (d : Decision). AllByRecursion IsSmall (chosen m r d (get_or p (place m w.0 w.1) (pos 0)))) (sym (decision_at m w.0 w.1 (order 0 0) w.2 w.3)) (serve_small w.0 w.1 w.2 w.3 (omega (arith, k, w.4)))))
+          (λ (w : (a b : ℕ) × (get_or (decisions m) x (order 0 0) ≡ order a b)).
+            let of_mode = subst (λ (d : Decision). IsOfMode m d) w.2 (All-get_or (IsOfMode m) (decisions m) x (order 0 0) l (All-from_recursion (IsOfMode m) (decisions m) (decisions_of_mode m))) in
+            let e : length (take x p) ≡ x = length-take-le x p (omega (arith, k)) in
+            let c = subst (λ (d : Decision). Contains (alternatives_of m r d (take x p)) (get_or p x (pos 0))) (ap (λ y. get_or (decisions m) y (order 0 0)) e ∙ w.2) (ch x k) in
+            subst (λ (d : Decision). AllByRecursion IsSmall (chosen m r d (get_or p x (pos 0)))) (sym w.2) (pair_small w.0 w.1 (get_or p x (pos 0)) (omega (arith, of_mode.0, of_mode.1)) of_mode.1 c))
+          (sorted_out m x l)
+
+    all_small : AllByRecursion IsSmall (in_force m r p)
+    all_small = all_both IsSmall (base m r) _ base_small (all_chosen IsSmall m r (decisions m) p choice_small)
