@@ -45,9 +45,9 @@ times_rise z y g h = let m : (up z + down y) * g ≤ (up y + down z) * g = mul-l
 quotient_low : (a r n : ℕ) → 1 ≤ r → a < n * r → a / r < n
 quotient_low a r n some h =
     ⊎_elim
-      (λ (less : a / r < n). less)
-      (λ (ge : n ≤ a / r). absurd (let k : n * r ≤ a / r * r = mul-le-mul_right r ge in omega (arith, h, k, div-add-mod' a r)))
-      (cases_lt (a / r) n)
+    (λ (less : a / r < n). less)
+    (λ (ge : n ≤ a / r). absurd (let k : n * r ≤ a / r * r = mul-le-mul_right r ge in omega (arith, h, k, div-add-mod' a r)))
+    (cases_lt (a / r) n)
 
 module _ (m : PlainMode) (r : ℕ) (ok : IsValid m) (lim : IsLimited m) (some : 1 ≤ r) where
   period_few : (a : ℕ) → a < length m.tasks → ((task_at m a).period ≤ 1000000000) × ((task_at m a).wcet ≤ 1000000000) × ((task_at m a).deadline ≤ 1000000000000)
@@ -57,10 +57,10 @@ module _ (m : PlainMode) (r : ℕ) (ok : IsValid m) (lim : IsLimited m) (some : 
 
   base_small : AllByRecursion IsSmall (base m r)
   base_small = base_all IsSmall m r (record {
-      rounds = λ j l. ((omega (arith, ints, lim.round), omega (arith, ints, lim.round)), (omega (arith, ints, lim.gap), omega (arith, ints, lim.gap)));
-      turn = ((omega (arith, ints, lim.round, ok.hyper_limit), omega (arith, ints, lim.round, ok.hyper_limit)), (omega (arith, ints, lim.gap, ok.hyper_limit), omega (arith, ints, lim.gap, ok.hyper_limit)));
-      tasks = λ a l. ((omega (arith, ints), omega (arith, ints)), λ e. (omega (arith, ints, period_few a l), omega (arith, ints, period_few a l)));
-      messages = λ i l.
+    rounds = λ j l. ((omega (arith, ints, lim.round), omega (arith, ints, lim.round)), (omega (arith, ints, lim.gap), omega (arith, ints, lim.gap)));
+    turn = ((omega (arith, ints, lim.round, ok.hyper_limit), omega (arith, ints, lim.round, ok.hyper_limit)), (omega (arith, ints, lim.gap, ok.hyper_limit), omega (arith, ints, lim.gap, ok.hyper_limit)));
+    tasks = λ a l. ((omega (arith, ints), omega (arith, ints)), λ e. (omega (arith, ints, period_few a l), omega (arith, ints, period_few a l)));
+    messages = λ i l.
         let a0 = ok.producer i l in
         let b0 = ok.consumer i l in
         let p = lim.periods _ (ok.message_period i l) in
@@ -69,8 +69,8 @@ module _ (m : PlainMode) (r : ℕ) (ok : IsValid m) (lim : IsLimited m) (some : 
           lasts = (omega (arith, ints), omega (arith, ints));
           to = λ b c. ((omega (arith, ints), omega (arith, ints)), (omega (arith, ints, p), omega (arith, ints, p)));
         };
-      deadlines = λ f lf ef l ll el er. (omega (arith, ints, period_few f lf, period_few l ll), omega (arith, ints, period_few f lf, period_few l ll));
-    })
+    deadlines = λ f lf ef l ll el er. (omega (arith, ints, period_few f lf, period_few l ll), omega (arith, ints, period_few f lf, period_few l ll));
+  })
 
   -- ---- the place of two tasks
   latest_most : (a : ℕ) → a < length m.tasks → (latest (task_at m a) ≤ℤ pos 1001000000000) × (neg_ℤ (pos 1000000001) ≤ℤ latest (task_at m a))
@@ -91,10 +91,10 @@ module _ (m : PlainMode) (r : ℕ) (ok : IsValid m) (lim : IsLimited m) (some : 
       let low_is = floor_high x (pos d) low one refl in
       let high_is = floor_low y (pos d) high one refl in
       let inside : Contains (span (low -ℤ pos 1) high) z =
-        ⊎_elim
-          (λ (none : ltb d (s.wcet + t.wcet) ≡ true). absurd (empty z (subst (λ (l : List ℤ). Contains l z) (cond-true (ltb d (s.wcet + t.wcet)) [] (span (low -ℤ pos 1) high) none) c)))
-          (λ (room : ltb d (s.wcet + t.wcet) ≡ false). subst (λ (l : List ℤ). Contains l z) (cond-false (ltb d (s.wcet + t.wcet)) [] (span (low -ℤ pos 1) high) room) c)
-          (cases_Bool (ltb d (s.wcet + t.wcet))) in
+      ⊎_elim
+      (λ (none : ltb d (s.wcet + t.wcet) ≡ true). absurd (empty z (subst (λ (l : List ℤ). Contains l z) (cond-true (ltb d (s.wcet + t.wcet)) [] (span (low -ℤ pos 1) high) none) c)))
+      (λ (room : ltb d (s.wcet + t.wcet) ≡ false). subst (λ (l : List ℤ). Contains l z) (cond-false (ltb d (s.wcet + t.wcet)) [] (span (low -ℤ pos 1) high) room) c)
+      (cases_Bool (ltb d (s.wcet + t.wcet))) in
       let w = span_bounds (low -ℤ pos 1) high z inside in
       let up_most = times_rise z high d w.1 in
       let down_most = times_rise low (z +ℤ pos 1) d (omega (arith, ints, w.0)) in
@@ -102,30 +102,32 @@ module _ (m : PlainMode) (r : ℕ) (ok : IsValid m) (lim : IsLimited m) (some : 
       let split_low = sum-times low (pos 1) (pos d) in
       let few : d ≤ 1000000000 = divisor_most s.period t.period p q (lim.periods _ (ok.task_period a la)).1 in
       let fa = period_few a la in
-      let fb = period_few b lb in
-      ((omega (arith, ints, up_most, high_is, fa, fb), omega (arith, ints, down_most, split, split_low, low_is, few, fa, fb)),
-        ((omega (arith, ints, down_most, split, split_low, low_is, few, fa, fb), omega (arith, ints, up_most, high_is, split, few, fa, fb)), tt))
+      let fb = period_few b lb in (
+        (omega (arith, ints, up_most, high_is, fa, fb), omega (arith, ints, down_most, split, split_low, low_is, few, fa, fb)),
+        ((omega (arith, ints, down_most, split, split_low, low_is, few, fa, fb), omega (arith, ints, up_most, high_is, split, few, fa, fb)), tt),
+      )
     where
       empty : (z : ℤ) → Contains [] z → ⊥
       empty z (k, l, e) = omega (arith, l)
+
       divisor_most : (x y : ℕ) → 1 ≤ x → 1 ≤ y → x ≤ 1000000000 → gcd x y ≤ 1000000000
       divisor_most x y p q h = let k = le_of_dvd p (gcd_is x y p q).0 in omega (arith, h, k)
 
   -- ---- the instance of a message
   module _ (p : List ℤ) (fits : length p ≤ length (decisions m)) (ch : Chosen m r p) where
     among : (i k : ℕ) → i < length m.messages → k < instance_count m (message_at m i) → place m i k < length p →
-      Contains (alternatives_of m r (serve i k) (take (place m i k) p)) (get_or p (place m i k) (pos 0))
+        Contains (alternatives_of m r (serve i k) (take (place m i k) p)) (get_or p (place m i k) (pos 0))
     among i k li lk l =
         let x = place m i k in
         let e : length (take x p) ≡ x = length-take-le x p (omega (arith, l)) in
         subst (λ (d : Decision). Contains (alternatives_of m r d (take x p)) (get_or p x (pos 0))) (ap (λ y. get_or (decisions m) y (order 0 0)) e ∙ decision_at m i k (order 0 0) li lk) (ch x l)
 
     first_bounds : (i : ℕ) → i < length m.messages → 0 < instance_count m (message_at m i) → place m i 0 < length p →
-      let msg = message_at m i in (pos 1 ≤ℤ get_or p (place m i 0) (pos 0)) × (get_or p (place m i 0) (pos 0) ≤ℤ pos (r * ((msg.period + msg.deadline) / hyper m + 1)))
+        let msg = message_at m i in (pos 1 ≤ℤ get_or p (place m i 0) (pos 0)) × (get_or p (place m i 0) (pos 0) ≤ℤ pos (r * ((msg.period + msg.deadline) / hyper m + 1)))
     first_bounds i li lk l = let msg = message_at m i in span_bounds (pos 1) (pos (r * ((msg.period + msg.deadline) / hyper m + 1))) (get_or p (place m i 0) (pos 0)) (among i 0 li lk l)
 
     serve_bounds : (i k : ℕ) → i < length m.messages → k < instance_count m (message_at m i) → place m i k < length p →
-      let msg = message_at m i in (pos 1 ≤ℤ get_or p (place m i k) (pos 0)) × (get_or p (place m i k) (pos 0) ≤ℤ (pos (r * ((msg.period + msg.deadline) / hyper m + 1)) +ℤ pos r))
+        let msg = message_at m i in (pos 1 ≤ℤ get_or p (place m i k) (pos 0)) × (get_or p (place m i k) (pos 0) ≤ℤ (pos (r * ((msg.period + msg.deadline) / hyper m + 1)) +ℤ pos r))
     serve_bounds i zero li lk l = let b = first_bounds i li lk l in (b.0, omega (arith, ints, b.1))
     serve_bounds i (suc k) li lk l =
         let x = place m i (suc k) in
@@ -133,9 +135,9 @@ module _ (m : PlainMode) (r : ℕ) (ok : IsValid m) (lim : IsLimited m) (some : 
         let e : length q ≡ x = length-take-le x p (omega (arith, l)) in
         let b = span_bounds (get_or q (length q - 1) (pos 0) +ℤ pos 1) (get_or q (length q - suc k) (pos 0) +ℤ pos r -ℤ pos 1) (get_or p x (pos 0)) (among i (suc k) li lk l) in
         let before : get_or q (length q - 1) (pos 0) ≡ get_or p (place m i k) (pos 0) =
-          ap (λ y. get_or q y (pos 0)) (let s : length q - 1 ≡ place m i k = omega (arith, e) in s) ∙ get_or-take x p (place m i k) (pos 0) (omega arith) in
+        ap (λ y. get_or q y (pos 0)) (let s : length q - 1 ≡ place m i k = omega (arith, e) in s) ∙ get_or-take x p (place m i k) (pos 0) (omega arith) in
         let begin : get_or q (length q - suc k) (pos 0) ≡ get_or p (place m i 0) (pos 0) =
-          ap (λ y. get_or q y (pos 0)) (let s : length q - suc k ≡ place m i 0 = omega (arith, e) in s) ∙ get_or-take x p (place m i 0) (pos 0) (omega arith) in
+        ap (λ y. get_or q y (pos 0)) (let s : length q - suc k ≡ place m i 0 = omega (arith, e) in s) ∙ get_or-take x p (place m i 0) (pos 0) (omega arith) in
         let a = first_bounds i li (omega (arith, lk)) (omega (arith, l)) in
         let c = serve_bounds i k li (omega (arith, lk)) (omega (arith, l)) in
         (omega (arith, ints, b, before, c.0), omega (arith, ints, b, begin, a.1))
@@ -170,15 +172,15 @@ module _ (m : PlainMode) (r : ℕ) (ok : IsValid m) (lim : IsLimited m) (some : 
     choice_small : (x : ℕ) → x < length (decisions m) → x < length p → AllByRecursion IsSmall (chosen m r (get_or (decisions m) x (order 0 0)) (get_or p x (pos 0)))
     choice_small x l k =
         ⊎_elim
-          (λ (w : (i j : ℕ) × (i < length m.messages) × (j < instance_count m (message_at m i)) × (x ≡ place m i j)).
-            subst (λ y. AllByRecursion IsSmall (chosen m r (get_or (decisions m) y (order 0 0)) (get_or p y (pos 0)))) (sym w.4)
-              (subst (λ (d : Decision). AllByRecursion IsSmall (chosen m r d (get_or p (place m w.0 w.1) (pos 0)))) (sym (decision_at m w.0 w.1 (order 0 0) w.2 w.3)) (serve_small w.0 w.1 w.2 w.3 (omega (arith, k, w.4)))))
-          (λ (w : (a b : ℕ) × (get_or (decisions m) x (order 0 0) ≡ order a b)).
-            let of_mode = subst (λ (d : Decision). IsOfMode m d) w.2 (All-get_or (IsOfMode m) (decisions m) x (order 0 0) l (All-from_recursion (IsOfMode m) (decisions m) (decisions_of_mode m))) in
-            let e : length (take x p) ≡ x = length-take-le x p (omega (arith, k)) in
-            let c = subst (λ (d : Decision). Contains (alternatives_of m r d (take x p)) (get_or p x (pos 0))) (ap (λ y. get_or (decisions m) y (order 0 0)) e ∙ w.2) (ch x k) in
-            subst (λ (d : Decision). AllByRecursion IsSmall (chosen m r d (get_or p x (pos 0)))) (sym w.2) (pair_small w.0 w.1 (get_or p x (pos 0)) (omega (arith, of_mode.0, of_mode.1)) of_mode.1 c))
-          (sorted_out m x l)
+        (λ (w : (i j : ℕ) × (i < length m.messages) × (j < instance_count m (message_at m i)) × (x ≡ place m i j)).
+        subst (λ y. AllByRecursion IsSmall (chosen m r (get_or (decisions m) y (order 0 0)) (get_or p y (pos 0)))) (sym w.4)
+        (subst (λ (d : Decision). AllByRecursion IsSmall (chosen m r d (get_or p (place m w.0 w.1) (pos 0)))) (sym (decision_at m w.0 w.1 (order 0 0) w.2 w.3)) (serve_small w.0 w.1 w.2 w.3 (omega (arith, k, w.4)))))
+        (λ (w : (a b : ℕ) × (get_or (decisions m) x (order 0 0) ≡ order a b)).
+        let of_mode = subst (λ (d : Decision). IsOfMode m d) w.2 (All-get_or (IsOfMode m) (decisions m) x (order 0 0) l (All-from_recursion (IsOfMode m) (decisions m) (decisions_of_mode m))) in
+        let e : length (take x p) ≡ x = length-take-le x p (omega (arith, k)) in
+        let c = subst (λ (d : Decision). Contains (alternatives_of m r d (take x p)) (get_or p x (pos 0))) (ap (λ y. get_or (decisions m) y (order 0 0)) e ∙ w.2) (ch x k) in
+        subst (λ (d : Decision). AllByRecursion IsSmall (chosen m r d (get_or p x (pos 0)))) (sym w.2) (pair_small w.0 w.1 (get_or p x (pos 0)) (omega (arith, of_mode.0, of_mode.1)) of_mode.1 c))
+        (sorted_out m x l)
 
-    all_small : AllByRecursion IsSmall (in_force m r p)
+    pub all_small : AllByRecursion IsSmall (in_force m r p)
     all_small = all_both IsSmall (base m r) _ base_small (all_chosen IsSmall m r (decisions m) p choice_small)

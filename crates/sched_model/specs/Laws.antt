@@ -3,7 +3,7 @@ use Rattle.std.specs.Prelude.{◌≡◌, ℕ, ◌<◌, ◌≤◌, ◌↔◌, Lis
 use Rattle.tick_num.specs.Differences.{MeetsAll, LeastValues}
 use Rattle.sched_model.specs.declared.schedule.Schedule.{Schedule}
 use Rattle.sched_model.specs.declared.trees.TreeNode.{TreeNode}
-use Rattle.sched_model.specs.PlainMode.{PlainMode, plain_mode, plain_at}
+use Rattle.sched_model.specs.PlainMode.{PlainMode, plain_mode, plain_at, most_rounds}
 use Rattle.sched_model.specs.Rounds.{Carries}
 use Rattle.sched_model.specs.RightSchedule.{HasShape, RoundsFit, OffsetFits, MessageFits, RunsApart, AllServed, Timely, IsSchedule}
 use Rattle.sched_model.specs.OneHyperperiod.{ClassesApart, ServedOnce, EntriesFit}
@@ -18,6 +18,7 @@ use Rattle.app_graph.specs.declared.mode_set.ModeSet.{ModeSet}
 use Rattle.app_graph.specs.declared.mode_set.Mode.{Mode}
 use Rattle.app_graph.specs.Validation.{KeepsRules}
 use Rattle.sched_model.specs.ModeLimits.{IsLimited}
+use Rattle.sched_model.specs.ProblemLimits.{ProblemFits}
 use Rattle.sched_model.specs.ValidMode.{IsValid}
 
 -- each mode of a set that keeps the rules of a mode file is valid
@@ -55,6 +56,10 @@ OneHyperperiodDecides = (m : PlainMode) (r : ℕ) (s : Schedule) → IsValid m �
 -- every right schedule has its times from 0 to 2,000,000,000,000
 abbrev pub SchedulesHaveTimes : Type 0
 SchedulesHaveTimes = (m : PlainMode) (r : ℕ) (s : Schedule) → IsValid m → IsSchedule m r s → HasTimes s
+
+-- the problem of each number of rounds that a hyperperiod has room for is within the limits
+abbrev pub ProblemsFit : Type 0
+ProblemsFit = (m : PlainMode) (r : ℕ) → IsValid m → IsLimited m → 1 ≤ r → r ≤ most_rounds m → ProblemFits m r
 
 -- an open prefix has least values, one family of them, and the first round starts at 0 in them
 abbrev pub LeastValuesExist : Type 0

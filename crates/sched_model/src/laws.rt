@@ -1,6 +1,6 @@
 //! Laws of schedules and of their search that other crates stand on.
 
-ghost use Rattle.sched_model.specs.Laws.{CostsAreOne, FirstListIsOne, KeptModesAreLimited, KeptModesAreValid, LeadingIsFullOpen, LeastValuesExist, ListsAreSchedules, OneHyperperiodDecides, OwnTreeOrLeads, OwnTreesAreValid, OwnTreesCountVisits, PrintedIsRight, SchedulesHaveOneList, SchedulesHaveTimes, SolutionsAreSchedules, TreesRefute};
+ghost use Rattle.sched_model.specs.Laws.{CostsAreOne, FirstListIsOne, KeptModesAreLimited, KeptModesAreValid, LeadingIsFullOpen, LeastValuesExist, ListsAreSchedules, OneHyperperiodDecides, OwnTreeOrLeads, OwnTreesAreValid, OwnTreesCountVisits, PrintedIsRight, ProblemsFit, SchedulesHaveOneList, SchedulesHaveTimes, SolutionsAreSchedules, TreesRefute};
 
 /// Each mode of a set that validation gives is valid.
 pub fn kept_modes_are_valid()
@@ -36,6 +36,11 @@ pub fn one_hyperperiod_decides()
 /// Every right schedule of a valid mode has its times from 0 to 2,000,000,000,000.
 pub fn schedules_have_times()
     ensures { SchedulesHaveTimes }
+{}
+
+/// A problem has few variables and constraints, whose bounds are small.
+pub fn problems_fit()
+    ensures { ProblemsFit }
 {}
 
 /// An open prefix of a valid mode has least values, which are one family and have the first round at 0.
