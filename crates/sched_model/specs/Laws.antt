@@ -101,6 +101,11 @@ abbrev pub CostsAreOne : Type 0
 CostsAreOne = (m : PlainMode) → ((r v w : ℕ) → Visited m r v → Visited m r w → v ≡ w) × ((v w : ℕ) → Cost m v → Cost m w → v ≡ w)
     × ((budget r q : ℕ) → SpentAt m budget r → SpentAt m budget q → r ≡ q)
 
+-- a number of rounds has a count of visited prefixes, a mode has a cost, and a budget is spent exactly where the cost is above it
+abbrev pub CostsExist : Type 0
+CostsExist = (m : PlainMode) → IsValid m → ((r : ℕ) → 1 ≤ r → (v : ℕ) × Visited m r v) × ((v : ℕ) × Cost m v)
+    × ((budget v : ℕ) → Cost m v → (budget < v) ↔ ((r : ℕ) × SpentAt m budget r))
+
 -- one full open list is the first
 abbrev pub FirstListIsOne : Type 0
 FirstListIsOne = (m : PlainMode) (r : ℕ) (p q : List ℤ) → FirstList m r p → FirstList m r q → p ≡ q

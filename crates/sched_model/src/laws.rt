@@ -1,6 +1,6 @@
 //! Laws of schedules and of their search that other crates stand on.
 
-ghost use Rattle.sched_model.specs.Laws.{CostsAreOne, FirstListIsOne, KeptModesAreLimited, KeptModesAreValid, LeadingIsFullOpen, LeastValuesExist, ListsAreSchedules, OneHyperperiodDecides, OwnTreeOrLeads, OwnTreesAreValid, OwnTreesCountVisits, PrintedIsRight, ProblemsFit, SchedulesHaveOneList, SchedulesHaveTimes, SolutionsAreSchedules, TreesRefute};
+ghost use Rattle.sched_model.specs.Laws.{CostsAreOne, CostsExist, FirstListIsOne, KeptModesAreLimited, KeptModesAreValid, LeadingIsFullOpen, LeastValuesExist, ListsAreSchedules, OneHyperperiodDecides, OwnTreeOrLeads, OwnTreesAreValid, OwnTreesCountVisits, PrintedIsRight, ProblemsFit, SchedulesHaveOneList, SchedulesHaveTimes, SolutionsAreSchedules, TreesRefute};
 
 /// Each mode of a set that validation gives is valid.
 pub fn kept_modes_are_valid()
@@ -81,6 +81,11 @@ pub fn own_trees_count_visits()
 /// Counts of visited prefixes, costs and the rounds at which a budget is spent are each one number.
 pub fn costs_are_one()
     ensures { CostsAreOne }
+{}
+
+/// A valid mode has a cost, and a budget is spent at some number of rounds exactly where the cost is above it.
+pub fn costs_exist()
+    ensures { CostsExist }
 {}
 
 /// At most one full open list is the first.
