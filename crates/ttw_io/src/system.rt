@@ -130,9 +130,9 @@ impl<R: Print> Sink for StdSink<R> {
     }
 
     fn flush(&mut self) -> Result<(), Failed> {
-        match io::writer(&self.rt).flush() {
-            Ok(()) => Ok(()),
-            Err(_) => Err(self.faults.add()),
+        if io::writer(&self.rt).flush().is_err() {
+            return Err(self.faults.add());
         }
+        Ok(())
     }
 }

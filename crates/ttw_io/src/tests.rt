@@ -48,7 +48,7 @@ fn failing_read(rt: HostRuntime) -> Result<(), Fail> {
         match read_all(rt.alloc(), &mut files, "long", 20000) {
             Ok(bytes) => assert!(rt; call == 4 && bytes.as_slice() == long.as_slice()),
             Err(ReadEnd::Failed) => assert!(rt; call < 4, "call {call} was not to fail"),
-            Err(_) => panic!(rt; "call {call}"),
+            Err(_end) => panic!(rt; "call {call}"),
         }
     }
     Ok(())
@@ -65,13 +65,13 @@ fn limit_of_read_all(rt: HostRuntime) -> Result<(), Fail> {
     assert!(rt; read_all(rt.alloc(), &mut files, "not given", 0)?.is_empty());
     match read_all(rt.alloc(), &mut files, "abc", 1) {
         Err(ReadEnd::Long(bytes)) => assert_eq!(rt; bytes.as_slice(), b"ab".as_slice()),
-        _ => panic!(rt; "three bytes are more than one"),
+        _end => panic!(rt; "three bytes are more than one"),
     }
     match read_all(rt.alloc(), &mut files, "abc", 2) {
         Err(ReadEnd::Long(bytes)) => assert_eq!(rt; bytes.as_slice(), b"abc".as_slice()),
         // That this never comes is proved.
         Err(ReadEnd::Failed) => unreachable!(),
-        _ => panic!(rt; "three bytes are more than two"),
+        _end => panic!(rt; "three bytes are more than two"),
     }
     Ok(())
 }
