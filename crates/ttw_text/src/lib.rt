@@ -1,0 +1,17 @@
+//! Lines, words, names and numbers of texts, and a text that is built.
+#![tactic(auto)]
+
+mod bytes;
+mod laws;
+mod lines;
+mod names;
+mod numbers;
+mod output;
+mod word;
+
+pub use laws::spelling_law;
+pub use lines::cut;
+pub use names::is_name;
+pub use numbers::read_u64;
+pub use output::Out;
+pub use word::{Parts, words};
