@@ -1,5 +1,5 @@
 -- Reading the digits of a number from the left.
-use Rattle.std.proofs.Common.{◌≡◌, ℕ, zero, suc, ◌+◌, ◌-◌, ◌*◌, ◌^◌, ◌<◌, ◌≤◌, Bool, true, false, ltb, ◌&&◌, cond, leb, List, [], ◌∷◌, length, get_or, drop, Option, Some, None, refl, sym, ap, ◌∙◌, arith}
+use Rattle.std.proofs.Common.{◌≡◌, ℕ, ◌+◌, ◌-◌, ◌*◌, ◌^◌, ◌<◌, ◌≤◌, Bool, true, false, ltb, ◌&&◌, cond, leb, List, [], ◌∷◌, length, get_or, drop, Option, Some, None, sym, ap, ◌∙◌, arith}
 use Rattle.std.proofs.lemmas.Bool.{cond-true, cond-false, lt-ltb, le-ltb, leb-true, and_parts, and_right}
 use Rattle.std.proofs.lemmas.List.{drop_more, drop_all}
 use Rattle.std.proofs.lemmas.Str.{digit_value_digit}
@@ -31,16 +31,16 @@ read_on_end n fits = cond-true _ _ _ (lt-ltb n (2 ^ 64) fits)
 
 -- the digit at this place takes the number past 64 bits
 pub over_at : (value i : ℕ) (ds : List ℕ) → i < length ds → is_ascii_digit (get_or ds i 0) ≡ true →
-  2 ^ 64 ≤ value * 10 + (get_or ds i 0 - 48) → read_on value (drop i ds) ≡ read_on 0 ds → None ≡ read_on 0 ds
+    2 ^ 64 ≤ value * 10 + (get_or ds i 0 - 48) → read_on value (drop i ds) ≡ read_on 0 ds → None ≡ read_on 0 ds
 over_at value i ds within digit over so_far =
     let c = get_or ds i 0 in
     let range = and_parts (leb 48 c) (leb c 57) digit in
     let is : digit_value c + 48 ≡ c = digit_value_digit c (leb-true 48 c range.0, leb-true c 57 range.1) in
     sym (
-      sym so_far
-      ∙ ap (read_on value) (drop_more ds i 0 within)
-      ∙ read_on_digit value c (drop (i + 1) ds) digit
-      ∙ read_on_over (value * 10 + digit_value c) (drop (i + 1) ds) (omega arith)
+    sym so_far
+    ∙ ap (read_on value) (drop_more ds i 0 within)
+    ∙ read_on_digit value c (drop (i + 1) ds) digit
+    ∙ read_on_over (value * 10 + digit_value c) (drop (i + 1) ds) (omega arith)
     )
 
 pub end_at : (value i : ℕ) (ds : List ℕ) → length ds ≤ i → value < 2 ^ 64 → read_on value (drop i ds) ≡ read_on 0 ds → Some value ≡ read_on 0 ds

@@ -1,6 +1,6 @@
 -- Spellings a digit at a time, and what they read as.
-use Rattle.std.proofs.Common.{◌≡◌, ℕ, zero, suc, ◌+◌, ◌-◌, ◌*◌, ◌/◌, ◌%◌, ◌^◌, ◌<◌, ◌≤◌, ◌↔◌, Bool, true, false, ltb, eqb, leb, ◌&&◌, ◌||◌, cond, List, [], ◌∷◌, ◌++◌, length, get_or, Option, Some, None, ℤ, pos, negsuc, int_le, unsigned_abs, refl, sym, ap, ◌∙◌, inl, inr, arith, length-append, subst}
-use Rattle.std.proofs.lemmas.Bool.{cases_lt, lt-ltb, le-ltb, ltb-true, le-leb, and_parts, and_from, or_cases, or_left, or_right, eqb-true, eq-eqb, cases_Bool, cond-true, cond-false, false≢true, both_ways}
+use Rattle.std.proofs.Common.{◌≡◌, ℕ, zero, suc, ◌+◌, ◌/◌, ◌%◌, ◌^◌, ◌<◌, ◌≤◌, ◌↔◌, Bool, true, false, ltb, eqb, ◌&&◌, List, [], ◌∷◌, ◌++◌, length, get_or, Option, Some, None, ℤ, pos, negsuc, int_le, unsigned_abs, refl, sym, ap, ◌∙◌, inl, inr, arith, length-append, subst}
+use Rattle.std.proofs.lemmas.Bool.{cases_lt, lt-ltb, le-ltb, ltb-true, le-leb, and_parts, and_from, or_cases, or_left, or_right, eqb-true, eq-eqb, cases_Bool, cond-true, cond-false, false≢true}
 use Rattle.std.proofs.lemmas.Int.Digits.{digits_value_push}
 use Rattle.std.proofs.lemmas.List.{get_or_append_left}
 use Rattle.std.proofs.lemmas.Str.Parse.{IsNumeralModel, numerals_by_value, tells_all_ascii_digits}
@@ -33,9 +33,9 @@ digits_in_room (suc most) (suc other) n few many =
     elim (cases_lt n 10) [
       | inl small ↦ digits_in_digit most n small ∙ sym (digits_in_digit other n small)
       | inr big ↦
-        digits_in_step most n big
-        ∙ ap (λ (ds : List ℕ). ds ++ (48 + n % 10) ∷ []) (digits_in_room most other (n / 10) (omega arith) (omega arith))
-        ∙ sym (digits_in_step other n big)
+          digits_in_step most n big
+          ∙ ap (λ (ds : List ℕ). ds ++ (48 + n % 10) ∷ []) (digits_in_room most other (n / 10) (omega arith) (omega arith))
+          ∙ sym (digits_in_step other n big)
     ]
 
 pub spelled_digit : (n : ℕ) → n < 10 → spelled n ≡ (48 + n) ∷ []
@@ -158,10 +158,10 @@ pub number_of-only : (text : List ℕ) (n : ℕ) → number_of text ≡ Some n �
 number_of-only text n read =
     elim (cases_Bool (is_numeral text && ltb (digits_value 10 text) (2 ^ 64))) [
       | inl passes ↦
-        let value : digits_value 10 text ≡ n = let e : Some (digits_value 10 text) ≡ Some n = sym (cond-true _ _ _ passes) ∙ read in cc in
-        let parts = and_parts _ _ passes in
-        let fits : digits_value 10 text < 2 ^ 64 = ltb-true _ _ parts.1 in
-        (numeral_is_spelled text parts.0 fits ∙ ap spelled value, omega arith)
+          let value : digits_value 10 text ≡ n = let e : Some (digits_value 10 text) ≡ Some n = sym (cond-true _ _ _ passes) ∙ read in cc in
+          let parts = and_parts _ _ passes in
+          let fits : digits_value 10 text < 2 ^ 64 = ltb-true _ _ parts.1 in
+          (numeral_is_spelled text parts.0 fits ∙ ap spelled value, omega arith)
       | inr fails ↦ let none : Option ℕ = None in let e : none ≡ Some n = sym (cond-false _ _ _ fails) ∙ read in absurd cc
     ]
 

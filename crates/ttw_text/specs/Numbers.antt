@@ -7,9 +7,9 @@ use Rattle.std.specs.Str.Parse.{digits_value}
 abbrev pub digits_in : ℕ → ℕ → List ℕ
 digits_in zero n = []
 digits_in (suc most) n =
-    elim (nat_lt n 10) as (λ _. List ℕ)
-    [ true ↦ (48 + n) ∷ []
-    | false ↦ digits_in most (n / 10) ++ (48 + n % 10) ∷ []
+    elim (nat_lt n 10) as (λ _. List ℕ) [
+      | true ↦ (48 + n) ∷ []
+      | false ↦ digits_in most (n / 10) ++ (48 + n % 10) ∷ []
     ]
 
 -- the spelling of a number

@@ -7,9 +7,11 @@ mod lines;
 mod names;
 mod numbers;
 mod output;
+#[cfg(test)]
+mod tests;
 mod word;
 
-pub use laws::spelling_law;
+pub use laws::{lines_law, spelling_law, words_law};
 pub use lines::cut;
 pub use names::is_name;
 pub use numbers::read_u64;

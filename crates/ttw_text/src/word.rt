@@ -4,9 +4,8 @@ ghost use Rattle.std.specs.Prelude.{◌≡◌, ◌∷◌};
 ghost use Rattle.std.specs.Option.{option_copied};
 ghost use Rattle.ttw_text.specs.Words.{parts, parts_left};
 
-use std::marker::Model;
-
 use crate::bytes::place_of;
+use std::marker::Model;
 
 /// The parts of a line that are not taken yet. Contracts see them as a list.
 #[derive(Drop)]

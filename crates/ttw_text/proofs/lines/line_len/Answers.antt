@@ -1,4 +1,4 @@
-use Rattle.std.proofs.Common.{◌≡◌, ◌∷◌, length, take, drop, sym, ◌∙◌, arith}
+use Rattle.std.proofs.Common.{length, sym, ◌∙◌, arith}
 use Rattle.std.proofs.lemmas.List.{take_all, drop_all}
 use Rattle.ttw_text.proofs.LineLemmas.{lines_at, lines_at_end}
 use Rattle.ttw_text.proofs.lines.line_len.Goals as goal

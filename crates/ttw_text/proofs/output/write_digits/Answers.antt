@@ -1,5 +1,5 @@
-use Rattle.std.proofs.Common.{◌≡◌, ◌+◌, ◌-◌, ◌/◌, ◌%◌, [], ◌∷◌, ◌++◌, length, arith, append_assoc, sym, ap, ◌∙◌}
-use Rattle.std.proofs.lemmas.List.{drop-set, length-set}
+use Rattle.std.proofs.Common.{◌≡◌, ◌+◌, ◌-◌, arith, append_assoc}
+use Rattle.std.proofs.lemmas.List.{drop-set}
 use Rattle.ttw_text.proofs.Spellings.{spelled_digit, spelled_step, length-spelled_digit, length-spelled_step}
 use Rattle.ttw_text.proofs.output.write_digits.Goals as goal
 
@@ -19,8 +19,8 @@ loop-left-preserved c =
       before = omega arith;
       places = omega arith;
       written =
-        rw (drop-set l.buffer (l.at - 1) _ (omega arith), e)
-        (rw (spelled_step l.left c.loop-left-test.true, append_assoc) at l.invariant.written);
+          rw (drop-set l.buffer (l.at - 1) _ (omega arith), e)
+          (rw (spelled_step l.left c.loop-left-test.true, append_assoc) at l.invariant.written);
     }
 
 pub overflow_sub-at-2 : goal.overflow_sub-at-2

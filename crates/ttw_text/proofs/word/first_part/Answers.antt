@@ -1,6 +1,5 @@
-use Rattle.std.proofs.Common.{◌≡◌, ◌+◌, ◌∷◌, take, sym, ap, ◌∙◌}
+use Rattle.std.proofs.Common.{◌+◌, sym, ◌∙◌}
 use Rattle.std.proofs.lemmas.List.{take_rest}
-use Rattle.ttw_text.specs.Words.{parts}
 use Rattle.ttw_text.proofs.WordLemmas.{parts_at, parts_at_end}
 use Rattle.ttw_text.proofs.word.first_part.Goals as goal
 
