@@ -1,0 +1,5 @@
+pub mod Items
+pub mod Written
+pub mod Names
+pub mod WordSpelling
+pub mod PlanText

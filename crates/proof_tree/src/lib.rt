@@ -1,0 +1,10 @@
+//! Plan documents: the text of trees and schedules, what a line says, and which documents are accepted.
+#![tactic(auto)]
+
+mod document;
+mod tree;
+mod words;
+
+pub use document::{write_plan, write_schedule, write_tree};
+pub use sched_model::TreeNode;
+pub use tree::{ModePart, Tree};
