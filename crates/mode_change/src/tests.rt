@@ -1,0 +1,65 @@
+//! Beacons over a change of mode.
+
+use std::alloc::{AllocError, Global};
+
+use app_graph::{ListOf, ModeSet};
+use beacon_codec::encode;
+use sched_model::Schedule;
+use tick_num::Time;
+
+use crate::{Host, Phase};
+
+ghost use Rattle.std.specs.Prelude.{◌≡◌, IfOk, false};
+ghost use Rattle.mode_change.specs.HostStands.{FewRounds};
+
+/// A schedule of rounds alone.
+fn rounds_at(alloc: Global, starts: Vec<Time>) -> Schedule
+    ensures { result.starts ≡ starts.items }
+{
+    Schedule {
+        starts: ListOf::from_vec(starts),
+        tasks: ListOf::from_vec(Vec::new(alloc)),
+        messages: ListOf::from_vec(Vec::new(alloc)),
+        tables: ListOf::from_vec(Vec::new(alloc)),
+    }
+}
+
+/// A mode of two rounds and one of one round.
+fn two_modes(alloc: Global) -> Result<Vec<Schedule>, AllocError>
+    ensures { IfOk result (λ v. FewRounds v.items) }
+{
+    let run = rounds_at(alloc, vec![in alloc; 0, 23]?);
+    let idle = rounds_at(alloc, vec![in alloc; 0]?);
+    Ok(vec![in alloc; run, idle]?)
+}
+
+fn no_modes(alloc: Global) -> ModeSet {
+    ModeSet {
+        slots: 2,
+        round: 20,
+        gap: 100,
+        host: 0,
+        nodes: ListOf::from_vec(Vec::new(alloc)),
+        modes: ListOf::from_vec(Vec::new(alloc)),
+    }
+}
+
+/// The bytes of the next round's beacon.
+fn pass_round(host: &mut Host) -> [u8; 4]
+    requires { host.old.host.inside ≡ false }
+    ensures { host.new.host.inside ≡ false }
+{
+    let beacon = host.next_beacon();
+    host.end_round();
+    encode(beacon)
+}
+
+#[test]
+fn beacons_over_a_change(rt: HostRuntime) -> Result<(), AllocError> {
+    let plans = two_modes(rt.alloc())?;
+    let set = no_modes(rt.alloc());
+    let mut host = Host::make(rt.alloc(), &set, plans.as_slice())?;
+    assert_eq!(rt; pass_round(&mut host), [0, 1, 0, 2]);
+    assert_eq!(rt; pass_round(&mut host), [0, 2, 0, 2]);
+    Ok(())
+}
