@@ -26,47 +26,67 @@ at_most n xs = nat_le (length xs) n
 abbrev pub among : List ℕ → List (List ℕ) → Bool
 among name names = list_any (bytes_eq name) names
 
--- the name of a mode, an application, a task or a message, and the earlier ones
-abbrev pub named : List ℕ → List (List ℕ) → Rule GraphFault
-named name earlier = first_of (unless (is_name name) (OutOfRange KName) ∷ unless (not (among name earlier)) (Repeated name) ∷ [])
+-- the name of a mode, an application, a task or a message is spelled as a name, and no earlier one has it
+abbrev pub named : List ℕ → Bool → Rule GraphFault
+named name taken = first_of (unless (is_name name) (OutOfRange KName) ∷ unless (not taken) (Repeated name) ∷ [])
 
--- one of a list of names under a key
+-- one of these modes, applications, tasks or messages has the name
+abbrev pub is_mode : List RawMode → List ℕ → Bool
+is_mode modes name = list_any (λ m. bytes_eq name m.name) modes
+
+abbrev pub is_app : List RawApp → List ℕ → Bool
+is_app apps name = list_any (λ a. bytes_eq name a.name) apps
+
+abbrev pub is_task : List RawTask → List ℕ → Bool
+is_task tasks name = list_any (λ t. bytes_eq name t.name) tasks
+
+abbrev pub is_message : List RawMessage → List ℕ → Bool
+is_message messages name = list_any (λ m. bytes_eq name m.name) messages
+
+-- one of the names under a key is spelled as a name, is no earlier one of them, and is known
 abbrev pub listed : Key → (List ℕ → Bool) → List (List ℕ) → List ℕ → Rule GraphFault
-listed key known earlier name = first_of (unless (is_name name) (OutOfRange key) ∷ unless (not (among name earlier)) (Repeated name) ∷ unless (known name) (Unknown name) ∷ [])
+listed key known earlier name = first_of (
+    unless (is_name name) (OutOfRange key)
+    ∷ unless (not (among name earlier)) (Repeated name)
+    ∷ unless (known name) (Unknown name) ∷ [])
 
--- rule 9
+-- a task: its name is new in the mode; its node is a node; its wcet is within the period; its body is spelled as a name;
+-- the mode has at most 128 tasks so far
 abbrev pub task_values : RawSet → RawApp → List RawTask → RawTask → Rule GraphFault
 task_values set app earlier t = first_of (
-    named t.name (map (λ e. e.name) earlier)
+    named t.name (is_task earlier t.name)
     ∷ unless (is_name t.node) (OutOfRange KNode) ∷ unless (among t.node set.nodes) (Unknown t.node)
     ∷ unless (within (pos 1) app.period t.wcet) (OutOfRange KWcet)
     ∷ unless (is_name t.body) (OutOfRange KBody)
     ∷ unless (nat_lt (length earlier) 128) (TooMany KTask) ∷ [])
 
+-- the producers or the consumers of a message: one or more, not too many, each a task of the application and none twice
 abbrev pub ends : Key → ℕ → RawApp → List (List ℕ) → Rule GraphFault
 ends key most app names = first_of (unless (has_some names) (OutOfRange key) ∷ unless (at_most most names) (TooMany key)
-    ∷ each_after (listed key (λ n. among n (map (λ t. t.name) app.tasks))) [] names ∷ [])
+    ∷ each_after (listed key (is_task app.tasks)) [] names ∷ [])
 
--- the nodes of the tasks of these names
-abbrev pub nodes_of : RawApp → List (List ℕ) → List (List ℕ)
-nodes_of app names = flat_map (λ n. map (λ t. t.node) (filter (λ t. bytes_eq t.name n) app.tasks)) names
+-- the tasks of the application that are named
+abbrev pub tasks_named : RawApp → List (List ℕ) → List RawTask
+tasks_named app names = filter (λ t. among t.name names) app.tasks
 
-abbrev pub all_same : List (List ℕ) → Bool
-all_same [] = true
-all_same (n ∷ ns) = list_all (bytes_eq n) ns
+-- they are all on one node
+abbrev pub on_one_node : List RawTask → Bool
+on_one_node tasks = list_all (λ t. list_all (λ u. bytes_eq t.node u.node) tasks) tasks
 
--- rule 10
+-- a message: its name is new in the mode; it has 1 to 4 producers, on one node, and 1 to 16 consumers;
+-- the mode has at most 64 messages so far
 abbrev pub message_values : RawApp → List RawMessage → RawMessage → Rule GraphFault
 message_values app earlier m = first_of (
-    named m.name (map (λ e. e.name) earlier)
+    named m.name (is_message earlier m.name)
     ∷ ends KFrom 4 app m.from ∷ ends KTo 16 app m.to
-    ∷ unless (all_same (nodes_of app m.from)) (TwoSenders m.name)
+    ∷ unless (on_one_node (tasks_named app m.from)) (TwoSenders m.name)
     ∷ unless (nat_lt (length earlier) 64) (TooMany KMessage) ∷ [])
 
--- rule 11
+-- how many values a task takes: one from each producer of each message that it consumes
 abbrev pub inputs_of : RawApp → RawTask → ℕ
 inputs_of app t = sum_by (λ m. if among t.name m.to then length m.from else 0) app.messages
 
+-- some message goes from the one task to the other
 abbrev pub goes : RawApp → RawTask → RawTask → Bool
 goes app t u = list_any (λ m. among t.name m.from && among u.name m.to) app.messages
 
@@ -81,7 +101,7 @@ has_cycle app = list_any (λ t. goes_in (length app.tasks) app t t) app.tasks
 -- the tasks and messages of the earlier applications come before those of this one
 abbrev pub app_values : RawSet → List RawApp → RawApp → Rule GraphFault
 app_values set earlier app = first_of (
-    named app.name (map (λ a. a.name) earlier)
+    named app.name (is_app earlier app.name)
     ∷ unless (within (pos 1) (pos 1000000000) app.period) (OutOfRange KPeriod)
     ∷ unless (within (pos 1) (pos 1000000000000) app.deadline) (OutOfRange KDeadline)
     ∷ unless (has_some app.tasks) (OutOfRange KTask)
@@ -116,7 +136,7 @@ size_values set mode = first_of (
 
 abbrev pub mode_values : RawSet → List RawMode → RawMode → Rule GraphFault
 mode_values set earlier mode = first_of (
-    named mode.name (map (λ m. m.name) earlier)
+    named mode.name (is_mode earlier mode.name)
     ∷ unless (has_some mode.apps) (OutOfRange KApp)
     ∷ each_after (app_values set) [] mode.apps
     ∷ size_values set mode ∷ [])

@@ -2,6 +2,7 @@
 
 use crate::keys::Key;
 use crate::names::Name;
+use std::alloc::AllocError;
 
 /// The first broken rule on values and graphs, or that memory ran out.
 #[derive(Drop)]
@@ -22,4 +23,15 @@ pub enum GraphFault {
     TooMany(Key),
     /// Memory ran out.
     Memory,
+}
+
+impl From<AllocError> for GraphFault {
+    ghost use Rattle.std.specs.Prelude.{◌≡◌};
+    ghost use Rattle.app_graph.specs.declared.faults.GraphFault.TheVariants.{Memory};
+
+    ghost from_gives = { λ _ fault. fault ≡ Memory };
+
+    fn from(_error: AllocError) -> GraphFault {
+        GraphFault::Memory
+    }
 }

@@ -1,12 +1,17 @@
 //! Mode sets: the modes of a file with their applications, tasks and messages, and the rules that they keep.
 #![tactic(auto)]
 
+mod checks;
 mod faults;
 mod keys;
 mod lists;
+mod message_rules;
 mod mode_set;
+mod name_rules;
 mod names;
 mod raw;
+mod spelling;
+mod task_rules;
 
 pub use faults::GraphFault;
 pub use keys::Key;

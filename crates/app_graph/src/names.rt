@@ -35,4 +35,11 @@ impl Name {
     {
         self.bytes.as_slice()
     }
+
+    /// The same name once more.
+    pub fn copy(&self, alloc: Global) -> Result<Self, AllocError>
+        ensures { IfOk result (λ n. n ≡ self.now) }
+    {
+        Name::copied(alloc, self.as_bytes())
+    }
 }

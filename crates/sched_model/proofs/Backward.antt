@@ -210,7 +210,7 @@ module _ (m : PlainMode) (r : ℕ) (s : Schedule) (ok : IsValid m) (is : IsSched
       g.2.1 ∙ ap pos ((is.s7.windows i k l).2 g.2.0 g.2.2)
 
   -- the windows of a message end before its period and deadline are over
-  starts_from_zero : (j : ℕ) → j < r → pos 0 ≤ℤ round_start s j
+  pub starts_from_zero : (j : ℕ) → j < r → pos 0 ≤ℤ round_start s j
   starts_from_zero zero l = omega (arith, ints, is.s1.begin)
   starts_from_zero (suc j) l = omega (arith, ints, starts_from_zero j (omega arith), is.s1.apart j (omega (arith, is.shape.starts)))
 

@@ -1,11 +1,10 @@
 -- Each round's first instance from the opening on decides all its instances, for one message
-use Rattle.std.proofs.Common.{◌≡◌, ℕ, zero, suc, ◌+◌, ◌-◌, ◌*◌, ◌/◌, ◌%◌, ◌<◌, ◌≤◌, refl, sym, ◌∙◌, ap, subst, arith, ◌⊎◌, inl, inr, ⊎_elim, ℤ, pos, ◌+ℤ◌, ◌≤ℤ◌, ◌<ℤ◌}
+use Rattle.std.proofs.Common.{◌≡◌, ℕ, suc, ◌+◌, ◌-◌, ◌*◌, ◌/◌, ◌%◌, ◌<◌, ◌≤◌, sym, ◌∙◌, ap, subst, arith, ◌⊎◌, inl, inr, ⊎_elim, ℤ, pos, ◌+ℤ◌, ◌≤ℤ◌, ◌<ℤ◌}
 use Rattle.std.proofs.lemmas.Int.{ints}
 use Rattle.std.proofs.lemmas.Bool.{cases_lt}
 use Rattle.std.proofs.lemmas.Nat.{div-add-mod', mod_below, mod-mul-add}
 use Rattle.std.proofs.Math.Nat.{mul-le-mul_right}
 use Rattle.sched_model.specs.RightSchedule.{ExactlyOne}
-use Rattle.sched_model.proofs.Classes.{later_round}
 use Rattle.sched_model.proofs.Serving.{Within, Repeats, moved}
 
 -- the first instance from the opening on of the round at place j, wait j hyperperiods late, and the window that has opened last by then
@@ -20,9 +19,9 @@ pub record FirstInstances (start : ℕ → ℤ) (r n p : ℕ) (o : ℤ) (wait wi
 below_times : (a b p : ℕ) → a * p < (b + 1) * p → a ≤ b
 below_times a b p h =
     ⊎_elim
-      (λ (more : b < a). absurd (let m : (b + 1) * p ≤ a * p = mul-le-mul_right p (omega (arith, more)) in omega (arith, h, m)))
-      (λ (le : a ≤ b). le)
-      (cases_lt b a)
+    (λ (more : b < a). absurd (let m : (b + 1) * p ≤ a * p = mul-le-mul_right p (omega (arith, more)) in omega (arith, h, m)))
+    (λ (le : a ≤ b). le)
+    (cases_lt b a)
 
 module _ (start : ℕ → ℤ) (r h n p t : ℕ) (o q : ℤ) (C : ℕ → Type 0) (rep : Repeats start r h n p t o q) (wait window : ℕ → ℕ) (fi : FirstInstances start r n p o wait window) where
   abbrev pub first : ℕ → ℕ
@@ -56,12 +55,12 @@ module _ (start : ℕ → ℤ) (r h n p t : ℕ) (o q : ℤ) (C : ℕ → Type 0
       let l = mod_below (g - 1) r rep.rounds in
       let e = in_turn g one in
       ⊎_elim
-        (λ (early : x < wait j). inr (subst (λ y. start y <ℤ o) (sym e) (fi.before j x l early)))
-        (λ (late : wait j ≤ x).
-          let d = x - wait j in
-          let times : x * r ≡ (wait j + d) * r = ap (λ y. y * r) (let z : x ≡ wait j + d = omega (arith, late) in z) in
-          inl (d, omega (arith, e, times)))
-        (cases_lt x (wait j))
+      (λ (early : x < wait j). inr (subst (λ y. start y <ℤ o) (sym e) (fi.before j x l early)))
+      (λ (late : wait j ≤ x).
+      let d = x - wait j in
+      let times : x * r ≡ (wait j + d) * r = ap (λ y. y * r) (let z : x ≡ wait j + d = omega (arith, late) in z) in
+      inl (d, omega (arith, e, times)))
+      (cases_lt x (wait j))
 
   -- and lies in the window of the first one, as many hyperperiods later
   same_window : (k j d : ℕ) → j < r → Within start t o q p k (first j + d * r) → (k ≡ window j + d * n) × Ends j
@@ -85,18 +84,18 @@ module _ (start : ℕ → ℤ) (r h n p t : ℕ) (o q : ℤ) (C : ℕ → Type 0
       let g = first j + 0 * r in
       let e = round_of_first j 0 l in
       ⊎_elim
-        (λ (w : (k : ℕ) × Within start t o q p k g). (same_window w.0 j 0 l w.1).1)
-        (λ (early : start g <ℤ o). absurd (omega (arith, ints, early, later j 0, fi.reached j l)))
-        (all g (omega arith) (subst C (sym e) c))
+      (λ (w : (k : ℕ) × Within start t o q p k g). (same_window w.0 j 0 l w.1).1)
+      (λ (early : start g <ℤ o). absurd (omega (arith, ints, early, later j 0, fi.reached j l)))
+      (all g (omega arith) (subst C (sym e) c))
 
   pub all_timely : ((j : ℕ) → j < r → C j → Ends j) → (g : ℕ) → 1 ≤ g → C ((g - 1) % r) → ((k : ℕ) × Within start t o q p k g) ⊎ (start g <ℤ o)
   all_timely ends g one c =
       let j = (g - 1) % r in
       let l = mod_below (g - 1) r rep.rounds in
       ⊎_elim
-        (λ (w : (d : ℕ) × (g ≡ first j + d * r)). inl (window j + w.0 * n, subst (λ x. Within start t o q p (window j + w.0 * n) x) (sym w.1) (moved_window j w.0 l (ends j l c))))
-        (λ (early : start g <ℤ o). inr early)
-        (from_first g one)
+      (λ (w : (d : ℕ) × (g ≡ first j + d * r)). inl (window j + w.0 * n, subst (λ x. Within start t o q p (window j + w.0 * n) x) (sym w.1) (moved_window j w.0 l (ends j l c))))
+      (λ (early : start g <ℤ o). inr early)
+      (from_first g one)
 
   -- ---- every window has exactly one
   -- what serves a window is the first of its round, some hyperperiods later
@@ -105,9 +104,9 @@ module _ (start : ℕ → ℤ) (r h n p t : ℕ) (o q : ℤ) (C : ℕ → Type 0
       let j = (g - 1) % r in
       let l = mod_below (g - 1) r rep.rounds in
       ⊎_elim
-        (λ (x : (d : ℕ) × (g ≡ first j + d * r)). let v = same_window k j x.0 l (subst (λ y. Within start t o q p k y) x.1 w) in (x.0, x.1, v.0, v.1))
-        (λ (early : start g <ℤ o). absurd (omega (arith, ints, early, w.0)))
-        (from_first g one)
+      (λ (x : (d : ℕ) × (g ≡ first j + d * r)). let v = same_window k j x.0 l (subst (λ y. Within start t o q p k y) x.1 w) in (x.0, x.1, v.0, v.1))
+      (λ (early : start g <ℤ o). absurd (omega (arith, ints, early, w.0)))
+      (from_first g one)
 
   -- the number of hyperperiods is that of the window
   turn_of : (a b d e : ℕ) → a < n → b < n → a + d * n ≡ b + e * n → (a ≡ b) × (d ≡ e)
@@ -124,11 +123,14 @@ module _ (start : ℕ → ℤ) (r h n p t : ℕ) (o q : ℤ) (C : ℕ → Type 0
       let j = (g - 1) % r in
       let lj = mod_below (g - 1) r rep.rounds in
       let x = taken_apart k g w in
-      let e : k + 0 * n ≡ window j + x.0 * n = omega (arith, x.2) in
-      (j, (lj, w.1, sym (turn_of k (window j) 0 x.0 l (fi.small j lj) e).0, x.3), λ i v.
-        let at = first i + 0 * r in
-        let serves : ServesIn k at = (omega arith, subst C (sym (round_of_first i 0 v.0)) v.1, subst (λ y. Within start t o q p y at) (let z : window i + 0 * n ≡ k = omega (arith, v.2) in z) (moved_window i 0 v.0 v.3)) in
-        sym (round_of_first i 0 v.0) ∙ ap (λ y. (y - 1) % r) ((all k).2 at serves))
+      let e : k + 0 * n ≡ window j + x.0 * n = omega (arith, x.2) in (
+        j,
+        (lj, w.1, sym (turn_of k (window j) 0 x.0 l (fi.small j lj) e).0, x.3),
+        λ i v.
+            let at = first i + 0 * r in
+            let serves : ServesIn k at = (omega arith, subst C (sym (round_of_first i 0 v.0)) v.1, subst (λ y. Within start t o q p y at) (let z : window i + 0 * n ≡ k = omega (arith, v.2) in z) (moved_window i 0 v.0 v.3)) in
+            sym (round_of_first i 0 v.0) ∙ ap (λ y. (y - 1) % r) ((all k).2 at serves),
+      )
 
   pub all_served : ((k : ℕ) → k < n → ExactlyOne (FirstIn k)) → (k : ℕ) → ExactlyOne (ServesIn k)
   all_served once k =
@@ -138,11 +140,14 @@ module _ (start : ℕ → ℤ) (r h n p t : ℕ) (o q : ℤ) (C : ℕ → Type 0
       let j = (once i li).0 in
       let v = (once i li).1 in
       let g = first j + d * r in
-      let e : window j + d * n ≡ k = omega (arith, v.2, div-add-mod' k n) in
-      (g, (omega arith, subst C (sym (round_of_first j d v.0)) v.1, subst (λ y. Within start t o q p y g) e (moved_window j d v.0 v.3)), λ f w.
-        let x = taken_apart k f w in
-        let b = (f - 1) % r in
-        let lb = mod_below (f - 1) r rep.rounds in
-        let same = turn_of (window b) i x.0 d (fi.small b lb) li (omega (arith, x.2, div-add-mod' k n)) in
-        let here : b ≡ j = (once i li).2 b (lb, w.1, same.0, x.3) in
-        x.1 ∙ ap (λ y. first y + x.0 * r) here ∙ ap (λ y. first j + y * r) same.1)
+      let e : window j + d * n ≡ k = omega (arith, v.2, div-add-mod' k n) in (
+        g,
+        (omega arith, subst C (sym (round_of_first j d v.0)) v.1, subst (λ y. Within start t o q p y g) e (moved_window j d v.0 v.3)),
+        λ f w.
+            let x = taken_apart k f w in
+            let b = (f - 1) % r in
+            let lb = mod_below (f - 1) r rep.rounds in
+            let same = turn_of (window b) i x.0 d (fi.small b lb) li (omega (arith, x.2, div-add-mod' k n)) in
+            let here : b ≡ j = (once i li).2 b (lb, w.1, same.0, x.3) in
+            x.1 ∙ ap (λ y. first y + x.0 * r) here ∙ ap (λ y. first j + y * r) same.1,
+      )

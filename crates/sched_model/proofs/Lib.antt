@@ -20,6 +20,12 @@ pub mod Sums
 pub mod Backward
 pub mod FirstInstances
 pub mod OneTurn
+pub mod SmallModes
+pub mod Stored
+pub mod OwnTrees
+pub mod Leasts
+pub mod Variables
+pub mod Times
 pub mod OneList
 pub mod Fronts
 pub mod Refutations

@@ -9,7 +9,7 @@ use Rattle.sched_model.specs.RefutationTree.{Node, branch, short, full, cycle, E
 use Rattle.sched_model.proofs.Fronts.{in_force_front, load_front}
 
 -- the tree of an item of the list
-each_has : (V : ℤ → List Node → List Node → Type 0) (bs : List ℤ) (nodes rest : List Node) → EachOf V bs nodes rest → (a : ℤ) (k : ℕ) → k < length bs → get_or bs k a ≡ a → (x y : List Node) × V a x y
+pub each_has : (V : ℤ → List Node → List Node → Type 0) (bs : List ℤ) (nodes rest : List Node) → EachOf V bs nodes rest → (a : ℤ) (k : ℕ) → k < length bs → get_or bs k a ≡ a → (x y : List Node) × V a x y
 each_has V [] nodes rest e a k l h = absurd (omega arith)
 each_has V (b ∷ bs) nodes rest e a zero l h = (nodes, e.0, subst (λ (c : ℤ). V c nodes e.0) h e.1)
 each_has V (b ∷ bs) nodes rest e a (suc k) l h = each_has V bs e.0 rest e.2 a k (omega arith) h
@@ -38,7 +38,7 @@ each_valid : (V W : ℤ → List Node → List Node → Type 0) → ((a : ℤ) (
 each_valid V W f [] x y e = e
 each_valid V W f (b ∷ bs) x y e = (e.0, f b x e.0 e.1, each_valid V W f bs e.0 y e.2)
 
-own_valid : (m : PlainMode) (r n : ℕ) (p : List ℤ) (nodes rest : List Node) → OwnFrom m r n p nodes rest → ValidFrom m r n p nodes rest
+pub own_valid : (m : PlainMode) (r n : ℕ) (p : List ℤ) (nodes rest : List Node) → OwnFrom m r n p nodes rest → ValidFrom m r n p nodes rest
 own_valid m r n p [] rest t = t
 own_valid m r zero p (branch ∷ nodes) rest t = t
 own_valid m r (suc n) p (branch ∷ nodes) rest t = each_valid _ (λ a. ValidFrom m r n (p ++ a ∷ [])) (λ a. own_valid m r n (p ++ a ∷ [])) (alternatives m r p) nodes rest t.1

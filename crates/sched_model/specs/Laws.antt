@@ -1,6 +1,6 @@
 -- Laws of schedules, of the constraint problem and of the search
-use Rattle.std.specs.Prelude.{◌≡◌, ℕ, ◌<◌, ◌≤◌, ◌↔◌, List, length, ℤ, pos}
-use Rattle.tick_num.specs.Differences.{MeetsAll}
+use Rattle.std.specs.Prelude.{◌≡◌, ℕ, ◌<◌, ◌≤◌, ◌↔◌, List, length, ℤ, pos, ◌⊎◌}
+use Rattle.tick_num.specs.Differences.{MeetsAll, LeastValues}
 use Rattle.sched_model.specs.declared.schedule.Schedule.{Schedule}
 use Rattle.sched_model.specs.declared.trees.TreeNode.{TreeNode}
 use Rattle.sched_model.specs.PlainMode.{PlainMode}
@@ -8,10 +8,11 @@ use Rattle.sched_model.specs.Rounds.{Carries}
 use Rattle.sched_model.specs.RightSchedule.{HasShape, RoundsFit, OffsetFits, MessageFits, RunsApart, AllServed, Timely, IsSchedule}
 use Rattle.sched_model.specs.OneHyperperiod.{ClassesApart, ServedOnce, EntriesFit}
 use Rattle.sched_model.specs.ConstraintProblem.{in_force}
-use Rattle.sched_model.specs.OpenPrefix.{FullOpen}
-use Rattle.sched_model.specs.SearchCost.{Visited, Cost, SpentAt}
-use Rattle.sched_model.specs.PrintedSchedule.{FirstList, schedule_of}
+use Rattle.sched_model.specs.OpenPrefix.{FullOpen, Open}
+use Rattle.sched_model.specs.SearchCost.{Visited, Cost, SpentAt, LeadsAt}
+use Rattle.sched_model.specs.PrintedSchedule.{FirstList, schedule_of, Printed}
 use Rattle.sched_model.specs.ScheduleList.{HasList}
+use Rattle.sched_model.specs.TimeLimits.{HasTimes}
 use Rattle.sched_model.specs.RefutationTree.{Node, IsTree, IsOwnTree, ValidTree, OwnTree}
 use Rattle.sched_model.specs.ValidMode.{IsValid}
 
@@ -37,6 +38,20 @@ OneHyperperiodDecides = (m : PlainMode) (r : ℕ) (s : Schedule) → IsValid m �
     × (AllServed m s ↔ ServedOnce m s)
     × (((i g : ℕ) → i < length m.messages → 1 ≤ g → Carries m s i g → Timely m s i g) ↔ EntriesFit m s)
 
+-- every right schedule has its times from 0 to 2,000,000,000,000
+abbrev pub SchedulesHaveTimes : Type 0
+SchedulesHaveTimes = (m : PlainMode) (r : ℕ) (s : Schedule) → IsValid m → IsSchedule m r s → HasTimes s
+
+-- an open prefix has least values, one family of them, and the first round starts at 0 in them
+abbrev pub LeastValuesExist : Type 0
+LeastValuesExist = (m : PlainMode) (r : ℕ) (p : List ℤ) → IsValid m → 1 ≤ r → Open m r p →
+    (v : ℕ → ℤ) × LeastValues (in_force m r p) v × (v 0 ≡ pos 0) × ((w : ℕ → ℤ) → LeastValues (in_force m r p) w → (x : ℕ) → w x ≡ v x)
+
+-- what is printed for r rounds is a right schedule, and it is one
+abbrev pub PrintedIsRight : Type 0
+PrintedIsRight = (m : PlainMode) (r : ℕ) → ((s : Schedule) → IsValid m → 1 ≤ r → Printed m r s → IsSchedule m r s)
+    × ((s t : Schedule) → Printed m r s → Printed m r t → s ≡ t)
+
 -- where r rounds have a valid tree, they have no right schedule
 abbrev pub TreesRefute : Type 0
 TreesRefute = (m : PlainMode) (r : ℕ) → IsValid m → ((nodes : List Node) → IsTree m r nodes → (s : Schedule) → IsSchedule m r s → ⊥)
@@ -46,6 +61,21 @@ TreesRefute = (m : PlainMode) (r : ℕ) → IsValid m → ((nodes : List Node) �
 abbrev pub OwnTreesAreValid : Type 0
 OwnTreesAreValid = (m : PlainMode) (r : ℕ) → ((nodes : List Node) → IsOwnTree m r nodes → IsTree m r nodes)
     × ((nodes : List TreeNode) (refs : List ℕ) → OwnTree m r nodes refs → ValidTree m r nodes refs)
+
+-- the empty list of choices leads exactly where a full list is open
+abbrev pub LeadingIsFullOpen : Type 0
+LeadingIsFullOpen = (m : PlainMode) (r : ℕ) → LeadsAt m r ↔ ((p : List ℤ) × FullOpen m r p)
+
+-- an own tree exists exactly where the empty list of choices does not lead, and a tree can be stored
+abbrev pub OwnTreeOrLeads : Type 0
+OwnTreeOrLeads = (m : PlainMode) (r : ℕ) → IsValid m → 1 ≤ r → (((nodes : List Node) × IsOwnTree m r nodes) ⊎ LeadsAt m r)
+    × (((nodes : List Node) × IsOwnTree m r nodes) ↔ (¬ (LeadsAt m r)))
+    × (((nodes : List TreeNode) × (refs : List ℕ) × OwnTree m r nodes refs) ↔ (¬ (LeadsAt m r)))
+
+-- an own tree has a node for each visited prefix
+abbrev pub OwnTreesCountVisits : Type 0
+OwnTreesCountVisits = (m : PlainMode) (r : ℕ) → ((nodes : List Node) → IsOwnTree m r nodes → Visited m r (length nodes))
+    × ((nodes : List TreeNode) (refs : List ℕ) → OwnTree m r nodes refs → Visited m r (length nodes))
 
 -- a number of rounds has one count of visited prefixes, a mode has one cost, and a budget is spent at one number of rounds
 abbrev pub CostsAreOne : Type 0

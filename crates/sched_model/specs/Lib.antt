@@ -9,6 +9,8 @@ pub mod OpenPrefix
 pub mod SearchCost
 pub mod PrintedSchedule
 pub mod ScheduleList
+pub mod TimeLimits
 pub mod RefutationTree
 pub mod ValidMode
 pub mod Laws
+pub mod Examples

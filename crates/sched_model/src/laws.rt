@@ -1,6 +1,6 @@
 //! Laws of schedules and of their search that other crates stand on.
 
-ghost use Rattle.sched_model.specs.Laws.{CostsAreOne, FirstListIsOne, ListsAreSchedules, OneHyperperiodDecides, OwnTreesAreValid, SchedulesHaveOneList, SolutionsAreSchedules, TreesRefute};
+ghost use Rattle.sched_model.specs.Laws.{CostsAreOne, FirstListIsOne, LeadingIsFullOpen, LeastValuesExist, ListsAreSchedules, OneHyperperiodDecides, OwnTreeOrLeads, OwnTreesAreValid, OwnTreesCountVisits, PrintedIsRight, SchedulesHaveOneList, SchedulesHaveTimes, SolutionsAreSchedules, TreesRefute};
 
 /// A valid mode has a right schedule of some rounds exactly where a full list of choices is open.
 pub fn lists_are_schedules()
@@ -23,6 +23,21 @@ pub fn one_hyperperiod_decides()
     ensures { OneHyperperiodDecides }
 {}
 
+/// Every right schedule of a valid mode has its times from 0 to 2,000,000,000,000.
+pub fn schedules_have_times()
+    ensures { SchedulesHaveTimes }
+{}
+
+/// An open prefix of a valid mode has least values, which are one family and have the first round at 0.
+pub fn least_values_exist()
+    ensures { LeastValuesExist }
+{}
+
+/// The printed schedule of a valid mode is right, and for a number of rounds there is one at most.
+pub fn printed_is_right()
+    ensures { PrintedIsRight }
+{}
+
 /// A valid tree shows that a valid mode has no right schedule of so many rounds.
 pub fn trees_refute()
     ensures { TreesRefute }
@@ -31,6 +46,21 @@ pub fn trees_refute()
 /// An own tree is a valid tree.
 pub fn own_trees_are_valid()
     ensures { OwnTreesAreValid }
+{}
+
+/// The search finds a full list of choices exactly where one is open.
+pub fn leading_is_full_open()
+    ensures { LeadingIsFullOpen }
+{}
+
+/// A valid mode has an own tree for a number of rounds exactly where the search finds no full open list, and it has the one or the other.
+pub fn own_tree_or_leads()
+    ensures { OwnTreeOrLeads }
+{}
+
+/// An own tree has a node for each prefix that the search visits.
+pub fn own_trees_count_visits()
+    ensures { OwnTreesCountVisits }
 {}
 
 /// Counts of visited prefixes, costs and the rounds at which a budget is spent are each one number.

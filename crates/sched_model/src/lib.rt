@@ -1,6 +1,7 @@
 //! Schedules of a mode: what a right one is, the constraints that the search solves, what the search costs, and what refutes a number of rounds.
 #![tactic(auto)]
 
+pub mod examples;
 pub mod laws;
 mod schedule;
 mod trees;

@@ -1,10 +1,10 @@
-use Rattle.std.proofs.Common.{◌≡◌, ℕ, zero, suc, ◌+◌, ◌-◌, ◌*◌, ◌/◌, ◌%◌, ◌<◌, ◌≤◌, refl, sym, ◌∙◌, ap, subst, arith, ◌⊎◌, inl, inr, ⊎_elim, ◌↔◌, ℤ, pos, negsuc, ◌+ℤ◌, ◌-ℤ◌, ◌*ℤ◌, ◌≤ℤ◌, ◌<ℤ◌, unsigned_abs}
-use Rattle.std.specs.Int.{IsGcd, int_div_euclid}
+use Rattle.std.proofs.Common.{◌≡◌, ℕ, ◌+◌, ◌*◌, ◌/◌, ◌<◌, ◌≤◌, refl, sym, ap, arith, ◌⊎◌, inl, inr, ⊎_elim, ℤ, pos, negsuc, ◌+ℤ◌, ◌-ℤ◌, ◌≤ℤ◌}
+use Rattle.std.specs.Int.{int_div_euclid}
 use Rattle.std.proofs.lemmas.Int.{ints}
 use Rattle.std.proofs.Math.Nat.{mul-le-mul_right, mul-div_cancel'}
 use borrow.Author.Differences.{up, down}
 use Rattle.std.proofs.lemmas.Bool.{cases_lt}
-use Rattle.tick_num.specs.Classes.{NeverMeet, FitsAt, GcdClassLaw, Disjoint, run_start}
+use Rattle.tick_num.specs.Classes.{NeverMeet, FitsAt, GcdClassLaw}
 use Rattle.tick_num.proofs.Euclid.{Combines, combines}
 use Rattle.tick_num.proofs.Floor.{floored, sum-times}
 

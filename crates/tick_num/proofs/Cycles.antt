@@ -1,10 +1,10 @@
 -- A list of constraints with a negative cycle has no solution: round a cycle the bounds of a solution sum to 0 at least.
-use Rattle.std.proofs.Common.{◌≡◌, ℕ, ◌<◌, List, [], ◌∷◌, length, map, subst, arith, get_or, All, ℤ, pos, ◌+ℤ◌, ◌-ℤ◌, ◌≤ℤ◌, ◌<ℤ◌}
+use Rattle.std.proofs.Common.{ℕ, ◌<◌, List, [], ◌∷◌, length, map, subst, arith, ℤ, pos, ◌+ℤ◌, ◌-ℤ◌, ◌≤ℤ◌}
 use Rattle.std.specs.List.{AllByRecursion}
 use Rattle.std.proofs.lemmas.Int.{ints}
 use Rattle.std.proofs.lemmas.List.Elements.{recursion_from_All}
 use Rattle.tick_num.specs.declared.differences.Diff.{Diff}
-use Rattle.tick_num.specs.Differences.{diff, Meets, MeetsAll, sum_ℤ, Closes, IsCycle, named, NegativeCycle, CyclesExclude}
+use Rattle.tick_num.specs.Differences.{diff, Meets, MeetsAll, sum_ℤ, Closes, IsCycle, named, CyclesExclude}
 
 -- along a chain of constraints the first variable is above x by at most their sum
 along : (v : ℕ → ℤ) (x : ℕ) (d : Diff) (ds : List Diff) → AllByRecursion (Meets v) (d ∷ ds) → Closes x (d ∷ ds) → (v d.x -ℤ v x) ≤ℤ sum_ℤ (map (λ e. e.c) (d ∷ ds))

@@ -1,5 +1,5 @@
 -- Lists of bounds on differences of variables: their solutions, the least one, and cycles that exclude every one
-use Rattle.std.specs.Prelude.{◌≡◌, ℕ, ◌<◌, List, [], ◌∷◌, length, map, slice_index_or, All, ℤ, pos, ◌+ℤ◌, ◌-ℤ◌, ◌≤ℤ◌, ◌<ℤ◌}
+use Rattle.std.specs.Prelude.{◌≡◌, ℕ, ◌<◌, ◌≤◌, ◌⊎◌, List, [], ◌∷◌, length, map, slice_index_or, All, ℤ, pos, ◌+ℤ◌, ◌-ℤ◌, ◌≤ℤ◌, ◌<ℤ◌}
 use Rattle.tick_num.specs.declared.differences.Diff.{Diff}
 
 -- x - y is at most c
@@ -48,3 +48,19 @@ pub record NegativeCycle (ds : List Diff) (refs : List ℕ) : Type 0 where
 -- a list with a negative cycle has no solution
 abbrev pub CyclesExclude : Type 0
 CyclesExclude = (ds : List Diff) (refs : List ℕ) → NegativeCycle ds refs → (v : ℕ → ℤ) → MeetsAll v ds → ⊥
+
+-- the variables of the constraints are below n
+abbrev pub InRange : ℕ → List Diff → Type 0
+InRange n ds = All (λ d. (d.x < n) × (d.y < n)) ds
+
+-- a list over n variables has least values, or else a negative cycle of one to n constraints
+abbrev pub LeastOrCycle : Type 0
+LeastOrCycle = (n : ℕ) (ds : List Diff) → InRange n ds → ((v : ℕ → ℤ) × LeastValues ds v) ⊎ ((refs : List ℕ) × NegativeCycle ds refs × (1 ≤ length refs) × (length refs ≤ n))
+
+-- a list has one family of least values at most
+abbrev pub LeastUnique : Type 0
+LeastUnique = (ds : List Diff) (v w : ℕ → ℤ) → LeastValues ds v → LeastValues ds w → (x : ℕ) → v x ≡ w x
+
+-- values as they are listed by variable, and 0 past the end
+abbrev pub listed : List ℤ → ℕ → ℤ
+listed vs x = slice_index_or vs x (pos 0)

@@ -1,5 +1,5 @@
 use Rattle.std.proofs.Common.{arith}
-use Rattle.std.proofs.lemmas.Int.{ints, to_z-of_z}
+use Rattle.std.proofs.lemmas.Int.{to_z-of_z}
 use Rattle.tick_num.proofs.Floor.{floor_low, floor_high}
 use Rattle.tick_num.proofs.numbers.floor_div.Goals as goal
 

@@ -1,6 +1,4 @@
-use Rattle.std.proofs.Common.{arith, subst, sym, ◌∙◌}
-use Rattle.std.specs.Int.{IsGcd}
-use Rattle.tick_num.specs.Multiples.{IsLcm}
+use Rattle.std.proofs.Common.{arith}
 use Rattle.tick_num.proofs.Multiples.{multiple_is_least, same_multiple, least_is}
 use Rattle.tick_num.proofs.numbers.multiple_of.Goals as goal
 

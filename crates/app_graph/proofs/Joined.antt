@@ -1,0 +1,15 @@
+-- Tests and lengths of lists that are joined end to end
+use Rattle.std.proofs.Common.{◌≡◌, ℕ, ◌+◌, ◌<◌, ◌≤◌, Bool, true, false, ◌||◌, List, [], ◌∷◌, ◌++◌, length, get_or, take, drop, refl, sym, ◌∙◌, ap, arith, length-append}
+use Rattle.std.specs.List.{list_any, flat_map, sum_by}
+use Rattle.std.proofs.lemmas.List.Concat.{length-flat_map}
+use Rattle.std.proofs.lemmas.List.Folds.{list_any-append}
+
+pub list_any-flat_map : {X A : Type 0} (p : A → Bool) (f : X → List A) (xs : List X) → list_any p (flat_map f xs) ≡ list_any (λ x. list_any p (f x)) xs
+list_any-flat_map p f [] = refl
+list_any-flat_map p f (x ∷ xs) = list_any-append p (f x) (flat_map f xs) ∙ ap (λ b. list_any p (f x) || b) (list_any-flat_map p f xs)
+
+pub any_joined : {X A : Type 0} (p : A → Bool) (f : X → List A) (xs : List X) (ys : List A) → list_any p (flat_map f xs ++ ys) ≡ (list_any (λ x. list_any p (f x)) xs || list_any p ys)
+any_joined p f xs ys = list_any-append p (flat_map f xs) ys ∙ ap (λ b. b || list_any p ys) (list_any-flat_map p f xs)
+
+pub length_joined : {X A : Type 0} (f : X → List A) (xs : List X) (ys : List A) → length (flat_map f xs ++ ys) ≡ sum_by (λ x. length (f x)) xs + length ys
+length_joined f xs ys = length-append (flat_map f xs) ys ∙ ap (λ n. n + length ys) (length-flat_map f xs)

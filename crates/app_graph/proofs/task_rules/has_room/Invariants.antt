@@ -1,0 +1,5 @@
+use Rattle.std.proofs.Common.{◌≡◌, ◌+◌, ◌<◌, length, take, sum_by}
+use Rattle.app_graph.proofs.task_rules.has_room.Given as goal
+
+abbrev pub invariant-loop-app : goal.invariant-loop-app
+invariant-loop-app l = record { sum : sum_by (λ a. length a.tasks) (take l.app-index l.apps) + l.left ≡ 128; some : 0 < l.left }

@@ -1,0 +1,13 @@
+//! Mode files: reading one gives the mode set that it says, or the fault of the first rule that it breaks.
+#![tactic(auto)]
+
+mod faults;
+pub mod laws;
+mod reading;
+mod spelling;
+mod tables;
+mod unlisted;
+mod values;
+
+pub use faults::{FileFault, KeyText};
+pub use reading::read_raw;

@@ -1,0 +1,153 @@
+//! The values under the keys of a table, each of the kind that it is to have.
+
+ghost use Rattle.std.specs.Prelude.{◌≡◌, None, map, option_map, is_some};
+ghost use Rattle.std.specs.List.{list_all};
+ghost use Rattle.toml.specs.Data.{get_member, as_str, as_table};
+ghost use Rattle.toml.specs.View.{table_view, view};
+ghost use Rattle.app_graph.specs.Words.{word};
+ghost use Rattle.app_graph.specs.Rules.{unless};
+ghost use Rattle.mode_file.specs.declared.faults.FileFault.TheVariants.{WrongKind};
+ghost use Rattle.mode_file.specs.Tables;
+ghost use Rattle.mode_file.specs.Tables.{Integer, Text, TextArray, TableArray, has_kind, needs, may_have, text_at, text_or, integer_at, texts_at, tables_at, array_items};
+ghost use Rattle.mode_file.specs.Walks.{Walks};
+
+use crate::faults::FileFault;
+use app_graph::{Key, ListOf, Name};
+use std::alloc::Global;
+use toml::{Table, Value};
+
+fn value_at<'a>(table: &'a Table, key: Key) -> Option<&'a Value>
+    ensures { option_map (λ v. view v.now) result ≡ get_member (word key) (table_view table.now) }
+{
+    table.get(key.text())
+}
+
+/// The text that has to stand under the key.
+pub(crate) fn text_of<'a>(table: &'a Table, key: Key) -> Result<&'a str, FileFault>
+    ensures { Walks (λ s. s.now) result (needs (table_view table.now) key Text) (text_at (table_view table.now) key) }
+{
+    match value_at(table, key) {
+        None => Err(FileFault::Missing(key)),
+        Some(value) => match value.as_str() {
+            None => Err(FileFault::WrongKind(key)),
+            Some(text) => Ok(text),
+        },
+    }
+}
+
+/// The text that may stand under the key, or else the other one.
+pub(crate) fn text_or_of<'a>(
+    table: &'a Table,
+    key: Key,
+    other: &'static str,
+) -> Result<&'a str, FileFault>
+    ensures { Walks (λ s. s.now) result (may_have (table_view table.now) key Text) (text_or other.now (table_view table.now) key) }
+{
+    match value_at(table, key) {
+        None => Ok(other),
+        Some(value) => match value.as_str() {
+            None => Err(FileFault::WrongKind(key)),
+            Some(text) => Ok(text),
+        },
+    }
+}
+
+/// The integer that has to stand under the key.
+pub(crate) fn integer_of(table: &Table, key: Key) -> Result<i64, FileFault>
+    ensures { Walks (λ z. z) result (needs (table_view table.now) key Integer) (integer_at (table_view table.now) key) }
+{
+    match value_at(table, key) {
+        None => Err(FileFault::Missing(key)),
+        Some(value) => match value.as_integer() {
+            None => Err(FileFault::WrongKind(key)),
+            Some(z) => Ok(z),
+        },
+    }
+}
+
+fn are_texts(values: &[Value]) -> bool
+    ensures { result ≡ list_all (λ v. is_some (as_str (view v))) values.now }
+{
+    values.iter().all(|v| v.is_str())
+}
+
+fn are_tables(values: &[Value]) -> bool
+    ensures { result ≡ list_all (λ v. is_some (as_table (view v))) values.now }
+{
+    values.iter().all(|v| v.is_table())
+}
+
+/// The texts among the values.
+fn texts_among(alloc: Global, values: &[Value]) -> Result<ListOf<Name>, FileFault>
+    ensures { Walks (λ n. n) result None (Tables.texts_in (map view values.now)) }
+{
+    let mut names = Vec::new(alloc);
+    for value in values {
+        if let Some(text) = value.as_str() {
+            names.push(Name::copied(alloc, text.as_bytes())?)?;
+        }
+    }
+    Ok(ListOf::from_vec(names))
+}
+
+/// The texts of an array of texts.
+fn texts_in(alloc: Global, value: &Value, key: Key) -> Result<ListOf<Name>, FileFault>
+    ensures { Walks (λ n. n) result (unless (has_kind TextArray (view value.now)) (WrongKind key)) (Tables.texts_in (array_items (view value.now))) }
+{
+    match value.as_array() {
+        None => Err(FileFault::WrongKind(key)),
+        Some(values) => {
+            if are_texts(values) {
+                texts_among(alloc, values)
+            } else {
+                Err(FileFault::WrongKind(key))
+            }
+        }
+    }
+}
+
+/// The texts of the array that has to stand under the key.
+pub(crate) fn texts_of(alloc: Global, table: &Table, key: Key) -> Result<ListOf<Name>, FileFault>
+    ensures { Walks (λ n. n) result (needs (table_view table.now) key TextArray) (texts_at (table_view table.now) key) }
+{
+    match value_at(table, key) {
+        None => Err(FileFault::Missing(key)),
+        Some(value) => texts_in(alloc, value, key),
+    }
+}
+
+/// The values of an array of tables.
+fn tables_in<'a>(value: &'a Value, key: Key) -> Result<&'a [Value], FileFault>
+    ensures { Walks (λ vs. Tables.tables_in (map view vs.now)) result (unless (has_kind TableArray (view value.now)) (WrongKind key)) (Tables.tables_in (array_items (view value.now))) }
+{
+    match value.as_array() {
+        None => Err(FileFault::WrongKind(key)),
+        Some(values) => {
+            if are_tables(values) {
+                Ok(values.as_slice())
+            } else {
+                Err(FileFault::WrongKind(key))
+            }
+        }
+    }
+}
+
+/// The array of tables that has to stand under the key.
+pub(crate) fn tables_of<'a>(table: &'a Table, key: Key) -> Result<&'a [Value], FileFault>
+    ensures { Walks (λ vs. Tables.tables_in (map view vs.now)) result (needs (table_view table.now) key TableArray) (tables_at (table_view table.now) key) }
+{
+    match value_at(table, key) {
+        None => Err(FileFault::Missing(key)),
+        Some(value) => tables_in(value, key),
+    }
+}
+
+/// The array of tables that may stand under the key, or else none.
+pub(crate) fn tables_or_none_of<'a>(table: &'a Table, key: Key) -> Result<&'a [Value], FileFault>
+    ensures { Walks (λ vs. Tables.tables_in (map view vs.now)) result (may_have (table_view table.now) key TableArray) (tables_at (table_view table.now) key) }
+{
+    match value_at(table, key) {
+        None => Ok(&[]),
+        Some(value) => tables_in(value, key),
+    }
+}

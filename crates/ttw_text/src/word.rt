@@ -1,0 +1,67 @@
+//! The words of a line.
+
+ghost use Rattle.std.specs.Prelude.{◌≡◌, ◌∷◌};
+ghost use Rattle.std.specs.Option.{option_copied};
+ghost use Rattle.ttw_text.specs.Words.{parts, parts_left};
+
+use crate::bytes::place_of;
+use std::marker::Model;
+
+/// The parts of a line that are not taken yet. Contracts see them as a list.
+#[derive(Drop)]
+pub struct Parts<'a> {
+    rest: Option<&'a [u8]>,
+}
+
+impl<'a> Model for Parts<'a> {
+    ghost use Rattle.std.specs.Prelude.{ℕ, List};
+    ghost use Rattle.std.specs.Option.{option_copied};
+    ghost use Rattle.ttw_text.specs.Words.{parts_left};
+
+    ghost Value = { List (List ℕ) };
+
+    ghost view = { λ parts. parts_left (option_copied parts.rest) };
+}
+
+/// The first part of a line, and what stands behind its space.
+fn first_part(line: &[u8]) -> (&[u8], Option<&[u8]>)
+    ensures { parts line.now ≡ result.0.now ∷ parts_left (option_copied result.1) }
+{
+    match place_of(line, b' ') {
+        Some(at) => (&line[..at], Some(&line[at + 1..])),
+        None => (line, None),
+    }
+}
+
+/// The parts of a line between single spaces. An empty line has one empty part, and an empty part
+/// stands between two spaces that follow each other.
+pub fn words(line: &[u8]) -> Parts<'_>
+    ensures { result ≡ parts line.now }
+{
+    Parts { rest: Some(line) }
+}
+
+impl<'a> Parts<'a> {
+    /// The same parts, to be taken once more.
+    pub fn again(&self) -> Parts<'a>
+        ensures { result ≡ self.now }
+    {
+        Parts { rest: self.rest }
+    }
+}
+
+impl<'a> Iterator for Parts<'a> {
+    ghost use Rattle.std.specs.Iterator.{YieldsFirstRef, item_count};
+
+    type Item = &'a [u8];
+
+    ghost next_gives = { YieldsFirstRef (λ parts. parts) };
+
+    ghost remaining = { item_count (λ parts. parts) };
+
+    fn next(&mut self) -> Option<&'a [u8]> {
+        let (first, rest) = first_part(self.rest?);
+        self.rest = rest;
+        Some(first)
+    }
+}
