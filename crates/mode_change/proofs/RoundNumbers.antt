@@ -55,7 +55,7 @@ made_fits schedules ok =
 
 pub right_plans_have_few_rounds : RightPlansHaveFewRounds
 right_plans_have_few_rounds set schedules ok = record {
-    some = omega (arith, ok.one_each, ok.some);
-    modes = omega (arith, ok.one_each, ok.most);
-    rounds = counts_fit set schedules ok;
-  }
+  some = omega (arith, ok.one_each, ok.some);
+  modes = omega (arith, ok.one_each, ok.most);
+  rounds = counts_fit set schedules ok;
+}

@@ -1,20 +1,18 @@
 //! The host: it takes requests, decides the phase of each hyperperiod, and makes the beacon of each round.
 
-use std::alloc::{AllocError, Global};
-use std::marker::Model;
-
-use app_graph::ModeSet;
-use beacon_codec::Beacon;
-use sched_model::Schedule;
-
-use crate::phase::{Phase, decided, is_draining, named_mode};
-
 ghost use Rattle.std.specs.Prelude.{◌≡◌, ◌<◌, ◌≤◌, All, IfOk, IsTrue, [], false, length, true};
 ghost use Rattle.runtime_model.specs.HostCalls.{end_round_call, next_beacon_call, request_call};
 ghost use Rattle.runtime_model.specs.Plans.{first_rounds, round_counts};
 ghost use Rattle.mode_change.specs.HostSeen.{host_beacon, plain_beacon, with_call};
 ghost use Rattle.mode_change.specs.HostStands.{FewRounds, GoesOn, HostStands};
 ghost use Rattle.mode_change.specs.Phases.{plain_phase};
+
+use crate::phase::{Phase, decided, is_draining, named_mode};
+use app_graph::ModeSet;
+use beacon_codec::Beacon;
+use sched_model::Schedule;
+use std::alloc::{AllocError, Global};
+use std::marker::Model;
 
 /// The timeline of the modes as it stands, and how rounds are numbered.
 /// Contracts see the host's state and the numbers of rounds.
@@ -46,7 +44,9 @@ impl Host {
     /// right plans have few enough rounds, as the law `right_plans_have_few_rounds` says.
     pub fn make(alloc: Global, set: &ModeSet, plans: &[Schedule]) -> Result<Self, AllocError>
         requires { FewRounds plans.now }
-        ensures { IfOk result (λ host. HostStands plans.now host []) }
+        ensures stands { IfOk result (λ host. HostStands plans.now host []) }
+        ensures modes { IfOk result (λ host. length host.rounds ≡ length plans.now) }
+        ensures outside { IfOk result (λ host. host.host.inside ≡ false) }
     {
         let rounds = counts(alloc, plans)?;
         let firsts = first_numbers(alloc, rounds.as_slice())?;
@@ -165,13 +165,11 @@ impl Host {
             self.round += 1;
         } else {
             self.round = 1;
+            self.opening = false;
             match self.phase {
-                Phase::Steady => {
-                    self.opening = false;
-                }
+                Phase::Steady => {}
                 Phase::Warn(next) => {
                     self.phase = Phase::Drain(next);
-                    self.opening = false;
                 }
                 Phase::Drain(next) => {
                     self.mode = next;

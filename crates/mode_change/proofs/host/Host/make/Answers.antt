@@ -14,4 +14,4 @@ invariant_of-result c =
     let rounds = c.in_ok-rounds.ensures in
     let firsts = subst (λ (xs : List ℕ). c.in_ok-firsts.firsts.items ≡ first_rounds 1 xs) (c.as_slice.ensures.value ∙ rounds) c.in_ok-firsts.ensures in
     subst (λ (xs : List ℕ). HostFits 0 1 steady true None xs c.in_ok-firsts.firsts.items) (sym rounds)
-      (subst (λ (xs : List ℕ). HostFits 0 1 steady true None (round_counts c.args.plans.now) xs) (sym firsts) (made_fits c.args.plans.now c.requires))
+    (subst (λ (xs : List ℕ). HostFits 0 1 steady true None (round_counts c.args.plans.now) xs) (sym firsts) (made_fits c.args.plans.now c.requires))
