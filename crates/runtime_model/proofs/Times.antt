@@ -2,7 +2,7 @@
 use Rattle.std.proofs.Common.{◌≡◌, ℕ, zero, suc, ◌+◌, ◌-◌, ◌*◌, ◌/◌, ◌%◌, ◌<◌, ◌≤◌, Bool, true, false, List, [], ◌∷◌, length, get_or, Contains, refl, sym, ◌∙◌, ap, subst, arith, ◌⊎◌, inl, inr, ⊎_elim, ℤ, pos, negsuc, ◌+ℤ◌, ◌-ℤ◌, ◌*ℤ◌, ◌≤ℤ◌, ◌<ℤ◌}
 use Rattle.std.specs.Int.{int_div_euclid}
 use Rattle.std.proofs.lemmas.Int.{ints}
-use Rattle.std.proofs.lemmas.Nat.{mod_below, mod-mul-add, div-mul-add}
+use Rattle.std.proofs.lemmas.Nat.{mod_below, mod-mul-add, div-mul-add, le-div}
 use Rattle.std.proofs.Math.Nat.{mul-le-mul_right, mul-le-mul_left}
 use Rattle.std.proofs.lemmas.List.{get_or-map, length-map}
 use Rattle.std.proofs.lemmas.List.Elements.{All-get_or, All-contains}
@@ -17,7 +17,7 @@ use Rattle.sched_model.proofs.Hyper.{period_divides, hyper_some}
 use Rattle.std.specs.Prelude.{nat_eq, cond, not, neg_ℤ}
 use Rattle.sched_model.specs.ConstraintProblem.{latest}
 use Rattle.sched_model.specs.Numbers.{has, natural}
-use Rattle.sched_model.specs.PlainMode.{PlainMode, hyper, task_at, message_at, PlainMessage, no_message}
+use Rattle.sched_model.specs.PlainMode.{PlainMode, hyper, most_rounds, task_at, message_at, PlainMessage, no_message}
 use Rattle.sched_model.specs.RightSchedule.{IsSchedule, IsMessage}
 use Rattle.sched_model.specs.Rounds.{round_start, task_start, opens, closes, start, Carries, InWindow}
 use Rattle.sched_model.specs.TaskGraph.{IsEdge}
@@ -221,3 +221,20 @@ module _ (nodes : ℕ) (p : Plan) (ok : RightPlan nodes p) where
       let same : k.0 ≡ i = omega (arith, r.2.2, k.1) in
       (r.0, subst (λ z. z < length p.mode.messages) same k.2,
         subst (λ z. has (get_or p.schedule.tables j []) (message_at p.mode z).number ≡ true) same (subst (λ z. has (get_or p.schedule.tables j []) z ≡ true) (sym k.3) (contains_has (get_or p.schedule.tables j []) r.2.0 r.2.1)))
+
+-- ---- the rounds of a right plan
+module _ (nodes : ℕ) (p : Plan) (ok : RightPlan nodes p) where
+  -- each round starts after those before it
+  spaced : (j : ℕ) → j < length p.schedule.starts → pos (j * p.mode.round) ≤ℤ round_start p.schedule j
+  spaced zero l = omega (arith, ints, ok.right.s1.begin)
+  spaced (suc j) l = omega (arith, ints, spaced j (omega (arith, l)), ok.right.s1.apart j l)
+
+  -- no mode has more rounds than its hyperperiod has room for
+  pub rounds_fit : length p.schedule.starts ≤ most_rounds p.mode
+  rounds_fit =
+      let r = length p.schedule.starts in
+      let some : 1 ≤ r = omega (arith, ok.right.shape.some, ok.right.shape.starts) in
+      let q = r - 1 in
+      let is : r ≡ suc q = omega (arith, some) in
+      let total : r * p.mode.round ≡ q * p.mode.round + p.mode.round = omega (arith, ap (λ x. x * p.mode.round) is) in
+      le-div r (hyper p.mode) p.mode.round ok.valid.round (omega (arith, ints, total, spaced q (omega (arith, some)), ok.right.s1.end q (omega (arith, some))))

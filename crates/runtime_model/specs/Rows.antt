@@ -5,12 +5,12 @@ use Rattle.task_body.specs.Tally.{answer, first_numbers, numbers_after_fire}
 use Rattle.sched_model.specs.PlainMode.{PlainMode}
 use Rattle.runtime_model.specs.Timeline.{steady}
 use Rattle.runtime_model.specs.HostCalls.{host_after}
-use Rattle.runtime_model.specs.Plans.{Plan, round_counts}
+use Rattle.runtime_model.specs.Plans.{Plan}
 use Rattle.runtime_model.specs.Outcomes.{PlainEvent, advance, request, restart, Outcome, beaconed, sent, silent, started, off, finished, void, requested, restarted}
 use Rattle.runtime_model.specs.System.{Body, System}
 use Rattle.runtime_model.specs.History.{history}
 use Rattle.runtime_model.specs.Script.{ScriptLine, go, lose, asks, restarts_node, until_beacon, told}
-use Rattle.runtime_model.specs.World.{calls_of}
+use Rattle.runtime_model.specs.World.{schedule_counts, calls_of}
 use Rattle.runtime_model.specs.NodeTables.{part_of}
 
 -- ---- the systems
@@ -128,7 +128,7 @@ ModeChange = drop 17 (told two change_events) ≡
 
 -- the host after that change's events: it is in the first round of the idle mode's opening hyperperiod
 abbrev pub ModeChangeHost : Type 0
-ModeChangeHost = host_after (round_counts two.plans) (calls_of two (history two change_events))
+ModeChangeHost = host_after (schedule_counts two) (calls_of two (history two change_events))
     ≡ record { mode = 1; round = 1; phase = steady; opening = true; waiting = None; inside = true }
 
 -- a node that misses the warning runs the old mode on, and stops where it hears the draining
