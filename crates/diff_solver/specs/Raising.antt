@@ -7,7 +7,7 @@ use Rattle.diff_solver.specs.declared.rounds.Swept.TheVariants.{Settled, Raised,
 use Rattle.diff_solver.specs.Causes.{at, beside, before, IsCause}
 
 -- after some rounds: values from 0 on, of which none is above a solution, each with the round that last raised it and that raise's cause
-pub record Held (ds : List Diff) (round : ℕ) (vs : List ℤ) (rounds causes : List ℕ) : Type 0 where
+pub record StandsAfter (ds : List Diff) (round : ℕ) (vs : List ℤ) (rounds causes : List ℕ) : Type 0 where
   pub rounds_size : length rounds ≡ length vs
   pub causes_size : length causes ≡ length vs
   pub from_zero : (y : ℕ) → pos 0 ≤ℤ listed vs y
