@@ -1,5 +1,5 @@
 -- The faults of values and graphs as faults of the file
-use Rattle.std.proofs.Common.{◌≡◌, option_map, ap}
+use Rattle.std.proofs.Common.{option_map, ap}
 use Rattle.app_graph.specs.Rules.{Rule}
 use Rattle.app_graph.specs.Checks as graph
 use Rattle.app_graph.specs.declared.faults.GraphFault.{GraphFault}
