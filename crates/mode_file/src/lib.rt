@@ -11,3 +11,6 @@ mod values;
 
 pub use faults::{FileFault, KeyText};
 pub use reading::read_raw;
+
+#[cfg(test)]
+mod tests;
