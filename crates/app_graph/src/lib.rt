@@ -2,14 +2,18 @@
 #![tactic(auto)]
 
 mod checks;
+mod cycle_rule;
 mod faults;
 mod keys;
+pub mod laws;
 mod lists;
 mod message_rules;
+mod mode_rules;
 mod mode_set;
 mod name_rules;
 mod names;
 mod raw;
+mod size_rules;
 mod spelling;
 mod task_rules;
 
