@@ -48,9 +48,13 @@ has_kind _ _ = false
 
 -- ---- the rules on one table's keys
 
+-- the value has the kind
+abbrev pub is_of : Kind → Key → Data → Rule FileFault
+is_of kind key d = unless (has_kind kind d) (WrongKind key)
+
 -- where the key is there, its value has the kind
 abbrev pub may_have : Members → Key → Kind → Rule FileFault
-may_have ms key kind = option_map_or (λ d. unless (has_kind kind d) (WrongKind key)) (get_member (word key) ms) None
+may_have ms key kind = option_map_or (is_of kind key) (get_member (word key) ms) None
 
 -- the key is there
 abbrev pub has : Members → Key → Rule FileFault

@@ -1,4 +1,4 @@
-//! Mode files: reading one gives the mode set that it says, or the fault of the first rule that it breaks.
+//! Mode files: reading one gives the mode set that it says, or the fault of the first broken rule.
 #![tactic(auto)]
 
 mod faults;
