@@ -1,11 +1,11 @@
 -- Rounds from 0 on: they end with the least values, or the causes lead back from a variable
-use Rattle.std.proofs.Common.{◌≡◌, ℕ, zero, suc, ◌+◌, ◌-◌, ◌*◌, ◌<◌, ◌≤◌, List, [], ◌∷◌, length, replicate, All, refl, sym, ◌∙◌, ap, subst, arith, ◌⊎◌, inl, inr, ⊎_elim, ℤ, pos, ◌+ℤ◌, ◌-ℤ◌, ◌≤ℤ◌, ◌<ℤ◌}
+use Rattle.std.proofs.Common.{◌≡◌, ℕ, zero, suc, ◌+◌, ◌*◌, ◌<◌, ◌≤◌, List, length, replicate, All, refl, sym, ◌∙◌, subst, arith, ◌⊎◌, inl, inr, ⊎_elim, ℤ, pos, ◌+ℤ◌, ◌-ℤ◌, ◌≤ℤ◌, ◌<ℤ◌}
 use Rattle.std.proofs.lemmas.Int.{ints}
 use Rattle.std.proofs.lemmas.List.{length-replicate}
 use Rattle.tick_num.specs.declared.differences.Diff.{Diff}
 use Rattle.tick_num.specs.Differences.{diff, MeetsAll, LeastValues, listed}
 use Rattle.diff_solver.specs.Bounds.{Small}
-use Rattle.diff_solver.specs.Causes.{at, beside, before, back, IsCause, LeadsBack}
+use Rattle.diff_solver.specs.Causes.{at, beside, back, LeadsBack}
 use Rattle.diff_solver.specs.Raising.{StandsAfter, Within, Pending}
 
 -- ---- before the first round

@@ -1,10 +1,10 @@
 -- What a round keeps: each raise keeps the values from 0 on, below every solution and caused
-use Rattle.std.proofs.Common.{◌≡◌, ℕ, zero, suc, ◌+◌, ◌-◌, ◌<◌, ◌≤◌, cond, eqb, List, [], ◌∷◌, length, get_or, set, All, refl, sym, ◌∙◌, ap, subst, arith, ◌⊎◌, inl, inr, ⊎_elim, ℤ, pos, ◌+ℤ◌, ◌-ℤ◌, ◌≤ℤ◌, ◌<ℤ◌}
+use Rattle.std.proofs.Common.{◌≡◌, ℕ, ◌+◌, ◌<◌, ◌≤◌, cond, eqb, List, length, refl, sym, ◌∙◌, ap, subst, arith, inl, inr, ⊎_elim, ℤ, pos, ◌-ℤ◌, ◌≤ℤ◌, ◌<ℤ◌}
 use Rattle.std.proofs.lemmas.Int.{ints}
 use Rattle.std.proofs.lemmas.Bool.{cases_lt, cases_eq, eq-eqb, ne_eqb, cond-true, cond-false}
 use Rattle.std.proofs.lemmas.List.{length-set, get_or-set_same, get_or-set_other, get_or_default}
 use Rattle.tick_num.specs.declared.differences.Diff.{Diff}
-use Rattle.tick_num.specs.Differences.{diff, Meets, MeetsAll, listed, InRange}
+use Rattle.tick_num.specs.Differences.{diff, Meets, listed, InRange}
 use Rattle.diff_solver.specs.declared.rounds.Swept.{Swept}
 use Rattle.diff_solver.specs.declared.rounds.Swept.TheVariants.{Settled, Raised, TooHigh}
 use Rattle.diff_solver.specs.Causes.{at, beside, before, IsCause}

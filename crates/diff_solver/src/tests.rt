@@ -61,10 +61,18 @@ fn small_systems(rt: HostRuntime) -> Result<(), Fail> {
 fn long_chain(rt: HostRuntime) -> Result<(), Fail> {
     let mut list = Vec::new(rt.alloc());
     for i in 0..511 {
-        list.push(Diff { x: 510 - i, y: 511 - i, c: -1 })?;
+        list.push(Diff {
+            x: 510 - i,
+            y: 511 - i,
+            c: -1,
+        })?;
     }
     for i in 0..14_488 {
-        list.push(Diff { x: i % 511 + 1, y: i % 511, c: 1 + i64::from(i % 7) })?;
+        list.push(Diff {
+            x: i % 511 + 1,
+            y: i % 511,
+            c: 1 + i64::from(i % 7),
+        })?;
     }
     let mut work = Work::reserve(rt.alloc(), 512, 15_000)?;
     assert!(rt; list.len() < 15_000);
@@ -74,7 +82,11 @@ fn long_chain(rt: HostRuntime) -> Result<(), Fail> {
         assert_eq!(rt; *value, i as i64);
     }
 
-    list.push(Diff { x: 511, y: 0, c: 510 })?;
+    list.push(Diff {
+        x: 511,
+        y: 0,
+        c: 510,
+    })?;
     assert!(rt; list.len() <= 15_000);
     assert_eq!(rt; solved(&rt, 512, &list, &mut work), Solved::Cycle);
     assert_eq!(rt; work.cycle().len(), 512);

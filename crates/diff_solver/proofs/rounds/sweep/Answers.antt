@@ -1,6 +1,6 @@
 use Rattle.std.proofs.Common.{arith, length}
 use Rattle.std.proofs.lemmas.Int.{ints}
-use Rattle.diff_solver.proofs.Sweeps.{sweeping_init, sweeping_skips, sweeping_keeps, sweeping_raises, raises_state, too_high, swept_whole}
+use Rattle.diff_solver.proofs.Sweeps.{sweeping_init, sweeping_skips, sweeping_keeps, sweeping_raises, raises_state, swept_whole}
 use Rattle.diff_solver.proofs.rounds.sweep.Goals as goal
 
 pub loop-position-init : goal.loop-position-init
