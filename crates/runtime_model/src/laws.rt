@@ -1,10 +1,16 @@
 //! Laws of the runtime. Each holds for every list of events, or of calls.
 
-ghost use Rattle.runtime_model.specs.Laws.{BeaconGap, HostsKeepTime, InputsHold, KindsFollow, RegistersHold, ReleasesFit, RunsEndBeforeSwitch, SendersAreSynced};
+ghost use Rattle.runtime_model.specs.Laws.{BeaconGap, HostsFollowEvents, HostsKeepTime, InputsHold, KindsFollow, RegistersHold, ReleasesFit, RunsEndBeforeSwitch, SendersAreSynced};
 
 /// A host that stands for a list of its calls stands for the list with one more, whose condition holds.
 pub fn hosts_keep_time()
     ensures { HostsKeepTime }
+{
+}
+
+/// The calls that events make of a host meet their conditions, and its timeline is that of the events.
+pub fn hosts_follow_events()
+    ensures { HostsFollowEvents }
 {
 }
 
