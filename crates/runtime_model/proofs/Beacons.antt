@@ -127,11 +127,11 @@ module _ (y : System) (md : ℕ) (ok : RightPlan y.nodes (plan_at y md)) where
         (cases_lt j (r - 1))
 
   -- the place of a beacon
-  beacon_place : (j : ℕ) → j < length (plan_at y md).schedule.starts → (i : ℕ) × Is y md i (natural (round_start (plan_at y md).schedule j)) (beacon j)
+  pub beacon_place : (j : ℕ) → j < length (plan_at y md).schedule.starts → (i : ℕ) × Is y md i (natural (round_start (plan_at y md).schedule j)) (beacon j)
   beacon_place j l = let h = has_beacon y.nodes (plan_at y md) j l (omega (arith, ints, before_end j l, start_is j l)) in (h.0, (h.1, h.2))
 
   -- of two beacons the one of the lower place is first
-  beacon_order : (i j g k t u : ℕ) → Is y md i t (beacon j) → Is y md g u (beacon k) → j < k → i < g
+  pub beacon_order : (i j g k t u : ℕ) → Is y md i t (beacon j) → Is y md g u (beacon k) → j < k → i < g
   beacon_order i j g k t u a b l =
       let ra = (subst (λ (x : Entry). RightAt (plan_at y md) x.tick x.action) a.1 (entry_right y.nodes (plan_at y md) i a.0).1) in
       let rb = (subst (λ (x : Entry). RightAt (plan_at y md) x.tick x.action) b.1 (entry_right y.nodes (plan_at y md) g b.0).1) in
@@ -140,7 +140,7 @@ module _ (y : System) (md : ℕ) (ok : RightPlan y.nodes (plan_at y md)) where
       let sooner : t < u = omega (arith, ints, late, q, start_is j ra.0, start_is k rb.0, ra.1, rb.1) in
       key_order y.nodes (plan_at y md) i g a.0 b.0 (omega (arith, ap key a.1, ap key b.1, sooner))
 
--- the entry of a call_state beacon
+-- the entry of a seen beacon
 pub seen_entry : (w : Action) → opens_round w ≡ true → (j : ℕ) × (w ≡ beacon j)
 seen_entry (beacon j) e = (j, refl)
 seen_entry (task_ends a) e = absurd cc
@@ -151,13 +151,13 @@ abbrev pub gap_of_mode : System → ℕ → ℕ
 gap_of_mode y md = (plan_at y md).mode.gap
 
 module _ (y : System) (right : AllRight y) where
-  some_round : (es : List PlainEvent) → 0 < length (plan_at y (last_spot (history y es)).hyper.mode).schedule.starts
+  pub some_round : (es : List PlainEvent) → 0 < length (plan_at y (last_spot (history y es)).hyper.mode).schedule.starts
   some_round es = let k = right es in omega (arith, k.right.shape.some, k.right.shape.starts)
 
-  some : SomeEntries y
+  pub some : SomeEntries y
   some es = let w = beacon_place y (last_spot (history y es)).hyper.mode (right es) 0 (some_round es) in omega (arith, w.1.0)
 
-  -- what a call_state beacon is, and when
+  -- what a seen beacon is, and when
   seen_round : (es : List PlainEvent) (h : Seen y (history y es)) → (j : ℕ) × (j < length (plan_at y (last_spot (history y es)).hyper.mode).schedule.starts)
       × Is y (last_spot (history y es)).hyper.mode h.done.spot.index (natural (round_start (plan_at y (last_spot (history y es)).hyper.mode).schedule j)) (beacon j)
       × (moment y h.done ≡ (last_spot (history y es)).begin + natural (round_start (plan_at y (last_spot (history y es)).hyper.mode).schedule j))
@@ -170,8 +170,8 @@ module _ (y : System) (right : AllRight y) where
       let mode = ap (λ (z : ℕ). (get_or (entries y z) h.done.spot.index none).tick) h.mode in
       (w.0, at.0, subst (λ z. Is y md h.done.spot.index z (beacon w.0)) (sym at.1) here, omega (arith, h.begin, mode, at.1))
 
-  -- a beacon of a lower place that is past is no later than the call_state one
-  not_lower : (es : List PlainEvent) (h : Seen y (history y es)) (j k i : ℕ) → Is y (last_spot (history y es)).hyper.mode h.done.spot.index (natural (round_start (plan_at y (last_spot (history y es)).hyper.mode).schedule j)) (beacon j) →
+  -- a beacon of a lower place that is past is no later than the seen one
+  pub not_lower : (es : List PlainEvent) (h : Seen y (history y es)) (j k i : ℕ) → Is y (last_spot (history y es)).hyper.mode h.done.spot.index (natural (round_start (plan_at y (last_spot (history y es)).hyper.mode).schedule j)) (beacon j) →
       Is y (last_spot (history y es)).hyper.mode i (natural (round_start (plan_at y (last_spot (history y es)).hyper.mode).schedule k)) (beacon k) → i < next_place (history y es) → k ≤ j
   not_lower es h j k i a b past =
       let md = (last_spot (history y es)).hyper.mode in
@@ -182,7 +182,7 @@ module _ (y : System) (right : AllRight y) where
         (λ (le : k ≤ j). le)
         (cases_lt j k)
 
-  not_unseen : (es : List PlainEvent) → Unseen y (history y es) → (i k t : ℕ) → Is y (last_spot (history y es)).hyper.mode i t (beacon k) → i < next_place (history y es) → ⊥
+  pub not_unseen : (es : List PlainEvent) → Unseen y (history y es) → (i k t : ℕ) → Is y (last_spot (history y es)).hyper.mode i t (beacon k) → i < next_place (history y es) → ⊥
   not_unseen es h i k t b past =
       let md = (last_spot (history y es)).hyper.mode in
       let r : opens_round (get_or (entries y md) i none).action ≡ true = ap (λ (z : Entry). opens_round z.action) b.1 in
@@ -259,7 +259,7 @@ module _ (y : System) (right : AllRight y) where
           (cases_lt k q.0))
         (cases_lt q.0 k)
 
-  index_now : (es : List PlainEvent) (lost : ℕ) → (spot_next y (history y es)).index < length (entries y (spot_next y (history y es)).hyper.mode)
+  pub index_now : (es : List PlainEvent) (lost : ℕ) → (spot_next y (history y es)).index < length (entries y (spot_next y (history y es)).hyper.mode)
   index_now es lost =
       let ds = history y es in
       let s = spot_next y ds in

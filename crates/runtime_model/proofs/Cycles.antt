@@ -121,7 +121,7 @@ all_by_node P nodes p test what u f =
           (below_all (λ a. AllByRecursion P (cond (nat_eq (task_at p.mode a).node v && test a) (record { tick = u; action = what a } ∷ []) [])) (length p.mode.tasks) (λ a k.
             cond_all P (nat_eq (task_at p.mode a).node v && test a) (record { tick = u; action = what a } ∷ []) (λ e. (f a k (and_parts (nat_eq (task_at p.mode a).node v) (test a) e).1, tt))))))
 
-all_map : {X Y : Type 0} (P : Y → Type 0) (f : X → Y) (xs : List X) → ((x : X) → Contains xs x → P (f x)) → AllByRecursion P (map f xs)
+pub all_map : {X Y : Type 0} (P : Y → Type 0) (f : X → Y) (xs : List X) → ((x : X) → Contains xs x → P (f x)) → AllByRecursion P (map f xs)
 all_map P f [] h = tt
 all_map P f (x ∷ xs) h = (h x (0, omega arith, refl), all_map P f xs (λ z c. h z (suc c.0, omega (arith, c.1), c.2)))
 

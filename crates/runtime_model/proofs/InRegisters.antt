@@ -422,7 +422,7 @@ drain_own true o d x b h = absurd cc
 drain_own false o false d b h = absurd cc
 
 module _ (y : System) (md b : ℕ) (fit : TaskFits y.nodes (plan_at y md) b) where
-  start_time : (s : Spot) (u : ℕ) → Is y md s.index u (task_starts b) → s.hyper.opening ≡ nat_eq s.turn 0 → placed s.hyper.opening s.hyper.phase (own_start (plan_at y md) u b) ≡ true →
+  pub start_time : (s : Spot) (u : ℕ) → Is y md s.index u (task_starts b) → s.hyper.opening ≡ nat_eq s.turn 0 → placed s.hyper.opening s.hyper.phase (own_start (plan_at y md) u b) ≡ true →
       (k : ℕ) × (s.turn * H y md + u ≡ offset (plan_at y md) b + k * P (plan_at y md) b)
   start_time s u is op pl = by_turn s.turn refl
     where

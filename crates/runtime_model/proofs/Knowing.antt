@@ -92,14 +92,14 @@ steady_with ms true c e h = absurd cc
 steady_with ms false true e h = steady_follows (timeline_of ms).last.mode (timeline_of ms).last.phase h
 steady_with ms false false e h = h
 
-arrival_mode : (y : System) (ds : List Step) (b c : Bool) →
+pub arrival_mode : (y : System) (ds : List Step) (b c : Bool) →
     (timeline_of ((cond b (begins ∷ []) [] ++ cond c (ended ∷ []) []) ++ marks_of ds)).last.mode ≡ (cond c (turned y (last_spot ds) (ended ∷ marks_of ds)) (record { hyper = (timeline_of (marks_of ds)).last; stay = (last_spot ds).stay; turn = (last_spot ds).turn; begin = (last_spot ds).begin; index = next_place ds })).hyper.mode
 arrival_mode y ds true true = refl
 arrival_mode y ds true false = refl
 arrival_mode y ds false true = refl
 arrival_mode y ds false false = refl
 
-first_is : (w : Action) → opens_round w ≡ false → is_first_beacon w ≡ false
+pub first_is : (w : Action) → opens_round w ≡ false → is_first_beacon w ≡ false
 first_is (task_ends a) e = refl
 first_is (beacon j) e = absurd cc
 first_is (slot j i) e = refl

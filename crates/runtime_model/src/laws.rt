@@ -1,10 +1,16 @@
 //! Laws of the runtime. Each holds for every list of events, or of calls.
 
-ghost use Rattle.runtime_model.specs.Laws.{BeaconGap, HostsKeepTime, InputsHold, KindsFollow, RegistersHold};
+ghost use Rattle.runtime_model.specs.Laws.{BeaconGap, HostsFollowEvents, HostsKeepTime, InputsHold, KindsFollow, RegistersHold, ReleasesFit, RunsEndBeforeSwitch, SendersAreSynced};
 
 /// A host that stands for a list of its calls stands for the list with one more, whose condition holds.
 pub fn hosts_keep_time()
     ensures { HostsKeepTime }
+{
+}
+
+/// The calls that events make of a host meet their conditions, and its timeline is that of the events.
+pub fn hosts_follow_events()
+    ensures { HostsFollowEvents }
 {
 }
 
@@ -29,5 +35,23 @@ pub fn inputs_hold()
 /// Consecutive beacons are at most the greatest gap apart.
 pub fn beacon_gap()
     ensures { BeaconGap }
+{
+}
+
+/// Every run that starts in a stay ends one tick before the stay does, or earlier, and none is released in its draining hyperperiod.
+pub fn runs_end_before_switch()
+    ensures { RunsEndBeforeSwitch }
+{
+}
+
+/// The release of a slot shifts the window of its message round its round.
+pub fn releases_fit()
+    ensures { ReleasesFit }
+{
+}
+
+/// A node that missed the last beacon, or has restarted since, does not send.
+pub fn senders_are_synced()
+    ensures { SendersAreSynced }
 {
 }
