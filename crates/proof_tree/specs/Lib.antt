@@ -3,3 +3,5 @@ pub mod Written
 pub mod Names
 pub mod WordSpelling
 pub mod PlanText
+pub mod Grammar
+pub mod PlanLines

@@ -2,9 +2,11 @@
 #![tactic(auto)]
 
 mod document;
+mod lines;
 mod tree;
 mod words;
 
 pub use document::{write_plan, write_schedule, write_tree};
+pub use lines::{BadLine, PlanLine, item};
 pub use sched_model::TreeNode;
 pub use tree::{ModePart, Tree};
