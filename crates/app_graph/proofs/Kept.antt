@@ -127,13 +127,13 @@ set_modes set e = leb-true (length set.modes) 8 (unless_kept (nat_le (length set
 pub set_tasks : (set : RawSet) → value_rules set ≡ None → sum_by task_count set.modes ≤ 1024
 set_tasks set e =
     let each = All-from_recursion (λ (m : RawMode). task_count m ≤ 128) set.modes
-      (each_kept (mode_values set) (λ m. task_count m ≤ 128) (mode_tasks set) [] set.modes (all_kept (set_rules set) e).1.1.1.1.0) in
+    (each_kept (mode_values set) (λ m. task_count m ≤ 128) (mode_tasks set) [] set.modes (all_kept (set_rules set) e).1.1.1.1.0) in
     omega (arith, sum_by-le task_count 128 set.modes each, set_modes set e)
 
 pub set_messages : (set : RawSet) → value_rules set ≡ None → sum_by message_count set.modes ≤ 512
 set_messages set e =
     let each = All-from_recursion (λ (m : RawMode). message_count m ≤ 64) set.modes
-      (each_kept (mode_values set) (λ m. message_count m ≤ 64) (mode_messages set) [] set.modes (all_kept (set_rules set) e).1.1.1.1.0) in
+    (each_kept (mode_values set) (λ m. message_count m ≤ 64) (mode_messages set) [] set.modes (all_kept (set_rules set) e).1.1.1.1.0) in
     omega (arith, sum_by-le message_count 64 set.modes each, set_modes set e)
 
 pub set_nodes : (set : RawSet) → value_rules set ≡ None → length set.nodes ≤ 64

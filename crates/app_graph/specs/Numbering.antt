@@ -45,9 +45,12 @@ messages_from t tasks n (m ∷ ms) = message_of t tasks n m ∷ messages_from t 
 -- an application whose first task has the number t and whose first message has the number m
 abbrev pub app_of : List (List ℕ) → ℕ → ℕ → RawApp → App
 app_of nodes t m a = record {
-    name = a.name; period = a.period; deadline = a.deadline;
-    tasks = tasks_from nodes t a.tasks; messages = messages_from t a.tasks m a.messages;
-  }
+  name = a.name;
+  period = a.period;
+  deadline = a.deadline;
+  tasks = tasks_from nodes t a.tasks;
+  messages = messages_from t a.tasks m a.messages;
+}
 
 -- applications, the same from the first one on
 abbrev pub apps_from : List (List ℕ) → ℕ → ℕ → List RawApp → List App

@@ -62,7 +62,12 @@ fn copy_names(alloc: Global, names: &[Name]) -> Result<ListOf<Name>, AllocError>
 }
 
 /// The task with a number.
-fn number_task(alloc: Global, nodes: &[Name], number: u32, task: &RawTask) -> Result<Task, AllocError>
+fn number_task(
+    alloc: Global,
+    nodes: &[Name],
+    number: u32,
+    task: &RawTask,
+) -> Result<Task, AllocError>
     requires { length nodes.now < 2 ^ 31 }
     ensures { IfOk result (λ t. t ≡ task_of nodes.now number task.now) }
 {
@@ -76,7 +81,12 @@ fn number_task(alloc: Global, nodes: &[Name], number: u32, task: &RawTask) -> Re
 }
 
 /// The tasks with the numbers from `first` on.
-fn number_tasks(alloc: Global, nodes: &[Name], first: u32, tasks: &[RawTask]) -> Result<ListOf<Task>, AllocError>
+fn number_tasks(
+    alloc: Global,
+    nodes: &[Name],
+    first: u32,
+    tasks: &[RawTask],
+) -> Result<ListOf<Task>, AllocError>
     requires nodes { length nodes.now < 2 ^ 31 }
     requires tasks { first + length tasks.now < 2 ^ 31 }
     ensures { IfOk result (λ v. v ≡ tasks_from nodes.now first tasks.now) }
@@ -89,7 +99,12 @@ fn number_tasks(alloc: Global, nodes: &[Name], first: u32, tasks: &[RawTask]) ->
 }
 
 /// The numbers of the named tasks, the first of which has the number `first`.
-fn numbers(alloc: Global, first: u32, tasks: &[RawTask], names: &[Name]) -> Result<ListOf<u32>, AllocError>
+fn numbers(
+    alloc: Global,
+    first: u32,
+    tasks: &[RawTask],
+    names: &[Name],
+) -> Result<ListOf<u32>, AllocError>
     requires { first + length tasks.now < 2 ^ 31 }
     ensures { IfOk result (λ v. v ≡ numbers_of first tasks.now names.now) }
 {
@@ -102,7 +117,13 @@ fn numbers(alloc: Global, first: u32, tasks: &[RawTask], names: &[Name]) -> Resu
 }
 
 /// The message with a number.
-fn number_message(alloc: Global, first: u32, tasks: &[RawTask], number: u32, message: &RawMessage) -> Result<Message, AllocError>
+fn number_message(
+    alloc: Global,
+    first: u32,
+    tasks: &[RawTask],
+    number: u32,
+    message: &RawMessage,
+) -> Result<Message, AllocError>
     requires { first + length tasks.now < 2 ^ 31 }
     ensures { IfOk result (λ m. m ≡ message_of first tasks.now number message.now) }
 {
@@ -115,7 +136,12 @@ fn number_message(alloc: Global, first: u32, tasks: &[RawTask], number: u32, mes
 }
 
 /// The messages of the application with the numbers from `number` on; its first task has the number `first`.
-fn number_messages(alloc: Global, first: u32, number: u32, app: &RawApp) -> Result<ListOf<Message>, AllocError>
+fn number_messages(
+    alloc: Global,
+    first: u32,
+    number: u32,
+    app: &RawApp,
+) -> Result<ListOf<Message>, AllocError>
     requires tasks { first + length app.now.tasks < 2 ^ 31 }
     requires messages { number + length app.now.messages < 2 ^ 31 }
     ensures { IfOk result (λ v. v ≡ messages_from first app.now.tasks number app.now.messages) }
@@ -130,7 +156,13 @@ fn number_messages(alloc: Global, first: u32, number: u32, app: &RawApp) -> Resu
 }
 
 /// The application whose first task and first message have these numbers.
-fn number_app(alloc: Global, nodes: &[Name], task: u32, message: u32, app: &RawApp) -> Result<App, AllocError>
+fn number_app(
+    alloc: Global,
+    nodes: &[Name],
+    task: u32,
+    message: u32,
+    app: &RawApp,
+) -> Result<App, AllocError>
     requires nodes { length nodes.now < 2 ^ 31 }
     requires tasks { task + length app.now.tasks < 2 ^ 31 }
     requires messages { message + length app.now.messages < 2 ^ 31 }
@@ -146,7 +178,13 @@ fn number_app(alloc: Global, nodes: &[Name], task: u32, message: u32, app: &RawA
 }
 
 /// The applications of the mode, the first task and the first message of which have these numbers.
-fn number_apps(alloc: Global, nodes: &[Name], task: u32, message: u32, mode: &RawMode) -> Result<ListOf<App>, AllocError>
+fn number_apps(
+    alloc: Global,
+    nodes: &[Name],
+    task: u32,
+    message: u32,
+    mode: &RawMode,
+) -> Result<ListOf<App>, AllocError>
     requires nodes { length nodes.now < 2 ^ 31 }
     requires tasks { task + task_count mode.now < 2 ^ 31 }
     requires messages { message + message_count mode.now < 2 ^ 31 }
@@ -188,7 +226,13 @@ fn count_messages(mode: &RawMode) -> u32
 }
 
 /// The mode whose first task and first message have these numbers.
-fn number_mode(alloc: Global, nodes: &[Name], task: u32, message: u32, mode: &RawMode) -> Result<Mode, AllocError>
+fn number_mode(
+    alloc: Global,
+    nodes: &[Name],
+    task: u32,
+    message: u32,
+    mode: &RawMode,
+) -> Result<Mode, AllocError>
     requires nodes { length nodes.now < 2 ^ 31 }
     requires tasks { task + task_count mode.now < 2 ^ 31 }
     requires messages { message + message_count mode.now < 2 ^ 31 }
