@@ -10,7 +10,7 @@ mod unlisted;
 mod values;
 
 pub use faults::{FileFault, KeyText};
-pub use reading::read_raw;
+pub use reading::read_modes;
 
 #[cfg(test)]
 mod tests;

@@ -1,8 +1,8 @@
 //! Mode files with their faults. In each row of two broken rules the first one counts.
 
 use crate::faults::{FileFault, KeyText};
-use crate::reading::read_raw;
-use app_graph::Name;
+use crate::reading::read_modes;
+use app_graph::{App, Name};
 use std::alloc::Global;
 use std::str::from_utf8;
 use std::test::Fail;
@@ -36,10 +36,157 @@ fn words_of(alloc: Global, fault: &FileFault) -> Result<String, Fail> {
 
 /// The fault of the file in words, or `read`.
 fn fault_of(alloc: Global, text: &[u8]) -> Result<String, Fail> {
-    match read_raw(alloc, text) {
+    match read_modes(alloc, text) {
         Ok(_) => Ok(String::from_str(alloc, "read")?),
         Err(fault) => words_of(alloc, &fault),
     }
+}
+
+/// A loop of three tasks on three nodes.
+const LOOP: &str = "
+slots = 2
+round = 20
+gap = 100
+host = 'n0'
+nodes = ['n0', 'n1', 'n2']
+[[mode]]
+name = 'run'
+[[mode.app]]
+name = 'loop'
+period = 100
+deadline = 90
+task = [
+    { name = 'sense', node = 'n1', wcet = 2 },
+    { name = 'ctrl', node = 'n0', wcet = 5, body = 'hold' },
+    { name = 'act', node = 'n2', wcet = 1 },
+]
+message = [
+    { name = 'm1', from = ['sense'], to = ['ctrl'] },
+    { name = 'm2', from = ['ctrl'], to = ['act'] },
+]
+";
+
+/// One task.
+const BLINK: &str = "
+slots = 2
+round = 10
+gap = 40
+host = 'n0'
+nodes = ['n0', 'n1']
+[[mode]]
+name = 'run'
+[[mode.app]]
+name = 'lamp'
+period = 100
+deadline = 100
+[[mode.app.task]]
+name = 'blink'
+node = 'n1'
+wcet = 3
+";
+
+/// The fault of the file with a part of it replaced.
+fn fault_with(alloc: Global, file: &str, part: &str, other: &str) -> Result<String, Fail> {
+    fault_of(alloc, file.replace(alloc, part, other)?.as_bytes())
+}
+
+/// The application, its tasks and its messages, a line for each.
+fn app_lines(alloc: Global, app: &App) -> Result<String, Fail> {
+    let mut lines = format!(in alloc;
+        "{} {} {}\n",
+        from_utf8(app.name.as_bytes())?,
+        app.period,
+        app.deadline
+    )?;
+    for task in app.tasks.as_slice() {
+        let name = from_utf8(task.name.as_bytes())?;
+        let body = from_utf8(task.body.as_bytes())?;
+        lines.push_str(format!(in alloc;
+            "{name} {} {} {body} {}\n",
+            task.node, task.wcet, task.number
+        )?
+        .as_str())?;
+    }
+    for message in app.messages.as_slice() {
+        let name = from_utf8(message.name.as_bytes())?;
+        let from = message.from.as_slice();
+        let to = message.to.as_slice();
+        lines.push_str(format!(in alloc; "{name} {from:?} {to:?} {}\n", message.number)?.as_str())?;
+    }
+    Ok(lines)
+}
+
+#[test]
+fn loop_modes(rt: HostRuntime) -> Result<(), Fail> {
+    let set = match read_modes(rt.alloc(), LOOP.as_bytes()) {
+        Ok(set) => set,
+        Err(fault) => return Err(Fail::from(words_of(rt.alloc(), &fault)?)),
+    };
+    assert_eq!(rt; (set.slots, set.round, set.gap, set.host), (2, 20, 100, 0));
+    assert_eq!(rt; set.nodes.as_slice().len(), 3);
+    for mode in set.modes.as_slice() {
+        for app in mode.apps.as_slice() {
+            let want =
+                "loop 100 90\nsense 1 2 tally 0\nctrl 0 5 hold 1\nact 2 1 tally 2\nm1 [0] [1] 0\nm2 [1] [2] 1\n";
+            assert_eq!(rt; app_lines(rt.alloc(), app)?.as_str(), want);
+        }
+        assert_eq!(rt; mode.apps.as_slice().len(), 1);
+    }
+    assert_eq!(rt; set.modes.as_slice().len(), 1);
+    Ok(())
+}
+
+#[test]
+fn gap_below_round(rt: HostRuntime) -> Result<(), Fail> {
+    let blink = BLINK.replace(rt.alloc(), "round = 10", "round = 30")?;
+    assert_eq!(rt;
+        fault_with(rt.alloc(), &blink, "gap = 40", "gap = 20")?.as_str(),
+        "out of range gap"
+    );
+    assert_eq!(rt;
+        fault_with(rt.alloc(), &blink, "gap = 40", "gap = 30")?.as_str(),
+        "read"
+    );
+    Ok(())
+}
+
+#[test]
+fn deadline_of_hyperperiod(rt: HostRuntime) -> Result<(), Fail> {
+    assert_eq!(rt; fault_of(rt.alloc(), BLINK.as_bytes())?.as_str(), "read");
+    assert_eq!(rt;
+        fault_with(rt.alloc(), BLINK, "deadline = 100", "deadline = 101")?.as_str(),
+        "deadline lamp"
+    );
+    Ok(())
+}
+
+#[test]
+fn cycle_and_two_senders(rt: HostRuntime) -> Result<(), Fail> {
+    let back = "message = [{ name = 'm3', from = ['act'], to = ['sense'] },";
+    assert_eq!(rt;
+        fault_with(rt.alloc(), LOOP, "message = [", back)?.as_str(),
+        "cycle loop"
+    );
+    assert_eq!(rt;
+        fault_with(
+            rt.alloc(),
+            LOOP,
+            "from = ['sense']",
+            "from = ['sense', 'ctrl']"
+        )?
+        .as_str(),
+        "two senders m1"
+    );
+    Ok(())
+}
+
+#[test]
+fn unknown_key(rt: HostRuntime) -> Result<(), Fail> {
+    assert_eq!(rt;
+        fault_with(rt.alloc(), BLINK, "wcet = 3", "wcet = 3\ncopies = 1")?.as_str(),
+        "unknown key copies"
+    );
+    Ok(())
 }
 
 /// A top table that lacks its modes.
