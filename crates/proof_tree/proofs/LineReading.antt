@@ -4,7 +4,7 @@ use Rattle.std.specs.Prelude.{codes, option_map, is_some, unwrap_or}
 use Rattle.std.specs.Option.{option_and_then}
 use Rattle.std.specs.List.{list_all, join_with_byte, AllByRecursion}
 use Rattle.std.specs.Str.{bytes_eq}
-use Rattle.std.proofs.lemmas.Bool.{leb-true}
+use Rattle.std.proofs.lemmas.Bool.{leb-true, lt-ltb}
 use Rattle.std.proofs.lemmas.List.Splits.{join_with_byte-slice_split}
 use Rattle.std.proofs.lemmas.Slice.Eq.{bytes_eq-Decides}
 use Rattle.ttw_text.specs.Names.{is_name}
@@ -133,3 +133,182 @@ form_back End h = refl
 pub said_is_read : (line : List ℕ) (i : Item) → Says line i → item_of line ≡ Some i
 said_is_read line i s =
     ap item_of s.words ∙ ap item_of_words (parts_joined (first_word i) (other_words i) (first_is_word i) (others_are_words i s.writable)) ∙ form_back i s.writable
+
+-- ---- what is read was written
+
+number_only : (w : List ℕ) (n : ℕ) → plan_number w ≡ Some n → (w ≡ spelled n) × (fits n ≡ true)
+number_only w n e = within (number_of w) refl e
+  where
+    within : (o : Option ℕ) → number_of w ≡ o → option_and_then (λ k. cond (leb k greatest) (Some k) None) o ≡ Some n → (w ≡ spelled n) × (fits n ≡ true)
+    within None is e = absurd cc
+    within (Some k) is e =
+        let c = kept (leb k greatest) k n e in
+        ((number_of-only w n (is ∙ ap (λ (j : ℕ). Some j) c.1)).0, subst (λ (j : ℕ). leb j greatest ≡ true) c.1 c.0)
+      where
+        kept : (b : Bool) (k n : ℕ) → ◌≡◌ {A = Option ℕ} (cond b (Some k) None) (Some n) → (b ≡ true) × (k ≡ n)
+        kept true k n e = (refl, cc)
+        kept false k n e = absurd cc
+
+some_is : {A : Type 0} (a b : A) → ◌≡◌ {A = Option A} (Some a) (Some b) → a ≡ b
+some_is a b e = cc
+
+none_is_not : {A : Type 0} (a : A) → ◌≡◌ {A = Option A} None (Some a) → ⊥
+none_is_not a e = absurd cc
+
+mapped : {A B : Type 0} (f : A → B) (o : Option A) (b : B) → option_map f o ≡ Some b → (a : A) × (o ≡ Some a) × (f a ≡ b)
+mapped f None b e = absurd (none_is_not b e)
+mapped f (Some a) b e = (a, refl, some_is (f a) b e)
+
+bound : {A B : Type 0} (f : A → Option B) (o : Option A) (b : B) → option_and_then f o ≡ Some b → (a : A) × (o ≡ Some a) × (f a ≡ Some b)
+bound f None b e = absurd (none_is_not b e)
+bound f (Some a) b e = (a, refl, e)
+
+tested : {A : Type 0} (t : Bool) (o : Option A) (a : A) → cond t o None ≡ Some a → (t ≡ true) × (o ≡ Some a)
+tested true o a e = (refl, e)
+tested false o a e = absurd (none_is_not a e)
+
+alone_only : (ws : List (List ℕ)) → alone ws ≡ true → ws ≡ []
+alone_only [] e = refl
+alone_only (w ∷ ws) e = absurd cc
+
+one_number_only : (ws : List (List ℕ)) (n : ℕ) → one_number ws ≡ Some n → (ws ≡ spelled n ∷ []) × (fits n ≡ true)
+one_number_only [] n e = absurd (none_is_not n e)
+one_number_only (w ∷ []) n e = let s = number_only w n e in (ap (λ (v : List ℕ). v ∷ []) s.0, s.1)
+one_number_only (w ∷ v ∷ ws) n e = absurd (none_is_not n e)
+
+one_name_only : (ws : List (List ℕ)) (n : List ℕ) → one_name ws ≡ Some n → (ws ≡ n ∷ []) × (is_name n ≡ true)
+one_name_only [] n e = absurd (none_is_not n e)
+one_name_only (w ∷ []) n e =
+    let t = tested (is_name w) (Some w) n e in
+    let s = some_is w n t.1 in
+    (ap (λ (v : List ℕ). v ∷ []) s, subst (λ (v : List ℕ). is_name v ≡ true) s t.0)
+one_name_only (w ∷ v ∷ ws) n e = absurd (none_is_not n e)
+
+same_word : (w text : List ℕ) → bytes_eq w text ≡ true → w ≡ text
+same_word w text e = (bytes_eq-Decides w text).0 e
+
+is_one_only : (ws : List (List ℕ)) → is_one ws ≡ true → ws ≡ codes "1" ∷ []
+is_one_only [] e = absurd cc
+is_one_only (w ∷ []) e = ap (λ (v : List ℕ). v ∷ []) (same_word w (codes "1") e)
+is_one_only (w ∷ v ∷ ws) e = absurd cc
+
+its_value : (o : Option ℕ) → is_some o ≡ true → o ≡ Some (unwrap_or o 0)
+its_value None e = absurd cc
+its_value (Some n) e = refl
+
+numbers_only : (ws : List (List ℕ)) → list_all is_number ws ≡ true → (ws ≡ map spelled (map value ws)) × (list_all fits (map value ws) ≡ true)
+numbers_only [] h = (refl, refl)
+numbers_only (w ∷ ws) h =
+    let b = both (is_number w) (list_all is_number ws) h in
+    let s = number_only w (value w) (its_value (plan_number w) b.0) in
+    let others = numbers_only ws b.1 in
+    (ap (λ (v : List ℕ). v ∷ ws) s.0 ∙ ap (λ (l : List (List ℕ)). spelled (value w) ∷ l) others.0, both_true (fits (value w)) (list_all fits (map value ws)) s.1 others.1)
+
+some_only : (ws vs : List (List ℕ)) → some_numbers ws ≡ Some vs → (ws ≡ map spelled (map value vs)) × ((ltb 0 (length (map value vs)) && list_all fits (map value vs)) ≡ true)
+some_only [] vs e = absurd (none_is_not vs e)
+some_only (w ∷ ws) vs e =
+    let t = tested (list_all is_number (w ∷ ws)) (Some (w ∷ ws)) vs e in
+    let s = some_is (w ∷ ws) vs t.1 in
+    let n = numbers_only (w ∷ ws) t.0 in
+    let all : (ltb 0 (length (map value (w ∷ ws))) && list_all fits (map value (w ∷ ws))) ≡ true = both_true (ltb 0 (length (map value (w ∷ ws)))) (list_all fits (map value (w ∷ ws))) (lt-ltb 0 (length (map value (w ∷ ws))) (omega arith)) n.1 in
+    (n.0 ∙ ap (λ (l : List (List ℕ)). map spelled (map value l)) s, subst (λ (l : List (List ℕ)). (ltb 0 (length (map value l)) && list_all fits (map value l)) ≡ true) s all)
+
+number_names_only : (ws : List (List ℕ)) (t : ℕ × List (List ℕ)) → number_names ws ≡ Some t → (ws ≡ spelled t.0 ∷ t.1) × ((fits t.0 && list_all is_name t.1) ≡ true)
+number_names_only [] t e = absurd (none_is_not t e)
+number_names_only (w ∷ ws) t e =
+    let b = bound (λ j. cond (list_all is_name ws) (Some (j, ws)) None) (plan_number w) t e in
+    let d = tested (list_all is_name ws) (Some (b.0, ws)) t b.2 in
+    let n = number_only w b.0 b.1 in
+    subst (λ (u : ℕ × List (List ℕ)). (w ∷ ws ≡ spelled u.0 ∷ u.1) × ((fits u.0 && list_all is_name u.1) ≡ true)) (some_is (b.0, ws) t d.1)
+      (ap (λ (v : List ℕ). v ∷ ws) n.0, both_true (fits b.0) (list_all is_name ws) n.1 d.0)
+
+name_number_only : (ws : List (List ℕ)) (t : List ℕ × ℕ) → name_number ws ≡ Some t → (ws ≡ t.0 ∷ spelled t.1 ∷ []) × ((is_name t.0 && fits t.1) ≡ true)
+name_number_only [] t e = absurd (none_is_not t e)
+name_number_only (w ∷ ws) t e =
+    let d = tested (is_name w) (option_map (λ o. (w, o)) (one_number ws)) t e in
+    let m = mapped (λ o. (w, o)) (one_number ws) t d.1 in
+    let n = one_number_only ws m.0 m.1 in
+    subst (λ (u : List ℕ × ℕ). (w ∷ ws ≡ u.0 ∷ spelled u.1 ∷ []) × ((is_name u.0 && fits u.1) ≡ true)) m.2
+      (ap (λ (l : List (List ℕ)). w ∷ l) n.0, both_true (is_name w) (fits m.0) d.0 n.1)
+
+two_numbers_only : (ws : List (List ℕ)) (t : ℕ × ℕ) → two_numbers ws ≡ Some t → (ws ≡ spelled t.0 ∷ spelled t.1 ∷ []) × ((fits t.0 && fits t.1) ≡ true)
+two_numbers_only [] t e = absurd (none_is_not t e)
+two_numbers_only (w ∷ ws) t e =
+    let b = bound (λ x. option_map (λ y. (x, y)) (one_number ws)) (plan_number w) t e in
+    let m = mapped (λ y. (b.0, y)) (one_number ws) t b.2 in
+    let f = number_only w b.0 b.1 in
+    let n = one_number_only ws m.0 m.1 in
+    subst (λ (u : ℕ × ℕ). (w ∷ ws ≡ spelled u.0 ∷ spelled u.1 ∷ []) × ((fits u.0 && fits u.1) ≡ true)) m.2
+      (ap (λ (l : List (List ℕ)). w ∷ l) n.0 ∙ ap (λ (v : List ℕ). v ∷ spelled m.0 ∷ []) f.0, both_true (fits b.0) (fits m.0) f.1 n.1)
+
+name_numbers_only : (ws : List (List ℕ)) (t : List ℕ × (ℕ × ℕ)) → name_numbers ws ≡ Some t → (ws ≡ t.0 ∷ spelled t.1.0 ∷ spelled t.1.1 ∷ []) × ((is_name t.0 && (fits t.1.0 && fits t.1.1)) ≡ true)
+name_numbers_only [] t e = absurd (none_is_not t e)
+name_numbers_only (w ∷ ws) t e =
+    let d = tested (is_name w) (option_map (λ p. (w, p)) (two_numbers ws)) t e in
+    let m = mapped (λ p. (w, p)) (two_numbers ws) t d.1 in
+    let n = two_numbers_only ws m.0 m.1 in
+    subst (λ (u : List ℕ × (ℕ × ℕ)). (w ∷ ws ≡ u.0 ∷ spelled u.1.0 ∷ spelled u.1.1 ∷ []) × ((is_name u.0 && (fits u.1.0 && fits u.1.1)) ≡ true)) m.2
+      (ap (λ (l : List (List ℕ)). w ∷ l) n.0, both_true (is_name w) (fits m.0.0 && fits m.0.1) d.0 n.1)
+
+-- these words have this meaning alone
+abbrev Only : List ℕ → List (List ℕ) → Item → Type 0
+Only w args i = (w ≡ first_word i) × (args ≡ other_words i) × (is_writable i ≡ true)
+
+pick : (b : Bool) (x y : Option Item) (i : Item) → cond b x y ≡ Some i → (b ≡ true) × (x ≡ Some i) ⊎ (y ≡ Some i)
+pick true x y i e = inl (refl, e)
+pick false x y i e = inr e
+
+bare : (w text : List ℕ) (args : List (List ℕ)) (j i : Item) → first_word j ≡ text → other_words j ≡ [] → is_writable j ≡ true
+    → (bytes_eq w text ≡ true) × (cond (alone args) (Some j) None ≡ Some i) → Only w args i
+bare w text args j i f o h p =
+    let t = tested (alone args) (Some j) i p.1 in
+    subst (Only w args) (some_is j i t.1) (same_word w text p.0 ∙ sym f, alone_only args t.0 ∙ sym o, h)
+
+numbered : (w text : List ℕ) (args : List (List ℕ)) (f : ℕ → Item) (i : Item) → ((n : ℕ) → first_word (f n) ≡ text) → ((n : ℕ) → other_words (f n) ≡ spelled n ∷ []) → ((n : ℕ) → fits n ≡ true → is_writable (f n) ≡ true)
+    → (bytes_eq w text ≡ true) × (option_map f (one_number args) ≡ Some i) → Only w args i
+numbered w text args f i first others h p =
+    let m = mapped f (one_number args) i p.1 in
+    let n = one_number_only args m.0 m.1 in
+    subst (Only w args) m.2 (same_word w text p.0 ∙ sym (first m.0), n.0 ∙ sym (others m.0), h m.0 n.1)
+
+listed : (w text : List ℕ) (args : List (List ℕ)) (f : List ℕ → Item) (i : Item) → ((ns : List ℕ) → first_word (f ns) ≡ text) → ((ns : List ℕ) → other_words (f ns) ≡ map spelled ns) → ((ns : List ℕ) → (ltb 0 (length ns) && list_all fits ns) ≡ true → is_writable (f ns) ≡ true)
+    → (bytes_eq w text ≡ true) × (option_map (λ ws. f (map value ws)) (some_numbers args) ≡ Some i) → Only w args i
+listed w text args f i first others h p =
+    let m = mapped (λ ws. f (map value ws)) (some_numbers args) i p.1 in
+    let n = some_only args m.0 m.1 in
+    subst (Only w args) m.2 (same_word w text p.0 ∙ sym (first (map value m.0)), n.0 ∙ sym (others (map value m.0)), h (map value m.0) n.1)
+
+form_only : (w : List ℕ) (args : List (List ℕ)) (i : Item) → form w args ≡ Some i → Only w args i
+form_only w args i e =
+    ⊎_elim (bare w (codes "branch") args Branch i refl refl refl) (λ e.
+    ⊎_elim (bare w (codes "short") args Short i refl refl refl) (λ e.
+    ⊎_elim (numbered w (codes "full") args Full i (λ n. refl) (λ n. refl) (λ n h. h)) (λ e.
+    ⊎_elim (numbered w (codes "refute") args Refute i (λ n. refl) (λ n. refl) (λ n h. h)) (λ e.
+    ⊎_elim (listed w (codes "cycle") args Cycle i (λ n. refl) (λ n. refl) (λ n h. h)) (λ e.
+    ⊎_elim (listed w (codes "start") args Start i (λ n. refl) (λ n. refl) (λ n h. h)) (λ e.
+    ⊎_elim (λ p. let m = mapped (λ t. TableOf t.0 t.1) (number_names args) i p.1 in let n = number_names_only args m.0 m.1 in subst (Only w args) m.2 (same_word w (codes "table") p.0, n.0, n.1)) (λ e.
+    ⊎_elim (λ p. let m = mapped ModeNamed (one_name args) i p.1 in let n = one_name_only args m.0 m.1 in subst (Only w args) m.2 (same_word w (codes "mode") p.0, n.0, n.1)) (λ e.
+    ⊎_elim (λ p. let t = tested (is_one args) (Some Head) i p.1 in subst (Only w args) (some_is Head i t.1) (same_word w (codes "ttw") p.0, is_one_only args t.0, refl)) (λ e.
+    ⊎_elim (bare w (codes "none") args Absent i refl refl refl) (λ e.
+    ⊎_elim (numbered w (codes "schedule") args ScheduleOf i (λ n. refl) (λ n. refl) (λ n h. h)) (λ e.
+    ⊎_elim (λ p. let m = mapped (λ t. TaskAt t.0 t.1) (name_number args) i p.1 in let n = name_number_only args m.0 m.1 in subst (Only w args) m.2 (same_word w (codes "task") p.0, n.0, n.1)) (λ e.
+    ⊎_elim (λ p. let m = mapped (λ t. MessageAt t.0 t.1.0 t.1.1) (name_numbers args) i p.1 in let n = name_numbers_only args m.0 m.1 in subst (Only w args) m.2 (same_word w (codes "message") p.0, n.0, n.1)) (λ e.
+    ⊎_elim (bare w (codes "end") args End i refl refl refl) (λ e. absurd (none_is_not i e))
+    (pick _ _ _ i e)) (pick _ _ _ i e)) (pick _ _ _ i e)) (pick _ _ _ i e)) (pick _ _ _ i e)) (pick _ _ _ i e)) (pick _ _ _ i e)) (pick _ _ _ i e)) (pick _ _ _ i e)) (pick _ _ _ i e)) (pick _ _ _ i e)) (pick _ _ _ i e)) (pick _ _ _ i e)) (pick _ _ _ i e)
+
+words_only : (ws : List (List ℕ)) (i : Item) → item_of_words ws ≡ Some i → ws ≡ first_word i ∷ other_words i
+words_only [] i e = absurd (none_is_not i e)
+words_only (w ∷ args) i e = let o = form_only w args i e in ap (λ (v : List ℕ). v ∷ args) o.0 ∙ ap (λ (l : List (List ℕ)). first_word i ∷ l) o.1
+
+words_writable : (ws : List (List ℕ)) (i : Item) → item_of_words ws ≡ Some i → is_writable i ≡ true
+words_writable [] i e = absurd (none_is_not i e)
+words_writable (w ∷ args) i e = (form_only w args i e).2
+
+read_is_said : (line : List ℕ) (i : Item) → item_of line ≡ Some i → Says line i
+read_is_said line i e = record {
+  words = sym (join_with_byte-slice_split 32 line) ∙ ap (join_with_byte 32) (words_only (parts line) i e);
+  writable = words_writable (parts line) i e;
+}
+
+pub lines_are_exact : LinesAreExact
+lines_are_exact line i = (read_is_said line i, said_is_read line i)

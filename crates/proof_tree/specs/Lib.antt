@@ -13,3 +13,4 @@ pub mod Fewest
 pub mod DocumentLaws
 pub mod Spelled
 pub mod OwnDocument
+pub mod Examples
