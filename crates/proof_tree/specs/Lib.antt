@@ -5,3 +5,12 @@ pub mod WordSpelling
 pub mod PlanText
 pub mod Grammar
 pub mod PlanLines
+pub mod TreeLines
+pub mod Accepting
+pub mod Reading
+pub mod Refusing
+pub mod Fewest
+pub mod DocumentLaws
+pub mod Spelled
+pub mod OwnDocument
+pub mod Examples

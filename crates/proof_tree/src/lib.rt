@@ -2,6 +2,8 @@
 #![tactic(auto)]
 
 mod document;
+pub mod examples;
+pub mod laws;
 mod lines;
 mod tree;
 mod words;
