@@ -1,13 +1,13 @@
 -- Laws of the runtime, over every list of events
-use Rattle.std.specs.Prelude.{◌≡◌, ℕ, suc, ◌+◌, ◌*◌, ◌<◌, ◌≤◌, true, false, List, [], ◌∷◌, length, Contains, Option, Some, ℤ}
+use Rattle.std.specs.Prelude.{◌≡◌, ℕ, suc, ◌+◌, ◌*◌, ◌<◌, ◌≤◌, ◌↔◌, true, false, List, [], ◌∷◌, length, Contains, Option, Some, ℤ}
 use Rattle.sched_model.specs.PlainMode.{hyper, task_at, message_at}
 use Rattle.runtime_model.specs.Timeline.{drains}
 use Rattle.runtime_model.specs.HostCalls.{HostCall, AllMay, call_state, host_after, after_call}
 use Rattle.runtime_model.specs.Plans.{Plan, RightPlan, Carried, node_of, offset}
 use Rattle.runtime_model.specs.Entries.{slot, task_starts}
 use Rattle.runtime_model.specs.Placement.{release, IsRelease, placed, own_slot, own_start, window_at, run_at}
-use Rattle.runtime_model.specs.Outcomes.{PlainEvent, advance, request, Step, is_beacon, took, sent, started}
-use Rattle.runtime_model.specs.LookingBack.{synced, settled, coasts, recall, last_beacon}
+use Rattle.runtime_model.specs.Outcomes.{PlainEvent, advance, request, Outcome, Step, is_beacon, took, sent, started}
+use Rattle.runtime_model.specs.LookingBack.{LookedBack, synced, settled, coasts, recall, last_beacon}
 use Rattle.runtime_model.specs.System.{System, plan_at}
 use Rattle.runtime_model.specs.Packets.{held}
 use Rattle.runtime_model.specs.History.{history, outcome_of, step_of, spot_next, entry_at, last_spot, marks_of, moment}
@@ -89,3 +89,7 @@ pub record HostFollows (y : System) (ds : List Step) : Type 0 where
 
 abbrev pub HostsFollowEvents : Type 0
 HostsFollowEvents = (y : System) → AllRight y → (es : List PlainEvent) → RequestsFit y es → HostFollows y (history y es)
+
+-- a look back finds x exactly where some step gave it, no later one gave anything, and the node is unbroken since
+abbrev pub RecallLooksBack : Type 0 → Type 0
+RecallLooksBack X = (v stay : ℕ) (f : Outcome → Option X) (ds : List Step) (x : X) → (recall v stay f ds ≡ Some x) ↔ LookedBack v stay f ds x

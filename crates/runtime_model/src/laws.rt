@@ -1,6 +1,7 @@
 //! Laws of the runtime. Each holds for every list of events, or of calls.
 
-ghost use Rattle.runtime_model.specs.Laws.{BeaconGap, HostsFollowEvents, HostsKeepTime, InputsHold, KindsFollow, RegistersHold, ReleasesFit, RunsEndBeforeSwitch, SendersAreSynced};
+ghost use Rattle.std.specs.Prelude.{List, ℤ};
+ghost use Rattle.runtime_model.specs.Laws.{BeaconGap, HostsFollowEvents, HostsKeepTime, InputsHold, KindsFollow, RecallLooksBack, RegistersHold, ReleasesFit, RunsEndBeforeSwitch, SendersAreSynced};
 
 /// A host that stands for a list of its calls stands for the list with one more, whose condition holds.
 pub fn hosts_keep_time()
@@ -17,6 +18,13 @@ pub fn hosts_follow_events()
 /// A node is in the state that the last two beacons and its restarts say.
 pub fn kinds_follow()
     ensures { KindsFollow }
+{
+}
+
+/// A look back finds what some step gave, where no later one gave anything and the node is unbroken since.
+pub fn recall_looks_back()
+    ensures values { RecallLooksBack ℤ }
+    ensures packets { RecallLooksBack (List ℤ) }
 {
 }
 
