@@ -41,7 +41,7 @@ pub record Seen (y : System) (ds : List Step) : Type 0 where
 abbrev pub Unseen : System → List Step → Type 0
 Unseen y ds = (i : ℕ) → i < next_place ds → BeaconAt y ds i ≡ false
 
--- an outcome_of is a beacon exactly where the entry is one
+-- an outcome is a beacon exactly where the entry is one
 pub outcome_is : (y : System) (p : Plan) (s : Spot) (lost : ℕ) (ds : List Step) (u : ℕ) (w : Action) → is_beacon (performed y p s lost ds u w) ≡ opens_round w
 outcome_is y p s lost ds u (task_ends a) = of_end (cond (ends_run p s.turn u a) (recall (node_of p a) s.stay (begun_run a (ending_run_at p s.turn u a)) ds) None)
   where

@@ -24,7 +24,7 @@ line h hs = record { last = h; before = hs }
 abbrev host : ℕ → ℕ → PlainPhase → Bool → Option ℕ → Bool → PlainHost
 host mode r phase opening w i = record { mode = mode; round = r; phase = phase; opening = opening; waiting = w; inside = i }
 
--- ---- the three calls on any timeline_of
+-- ---- the three calls on any timeline
 asks : (r : ℕ) (i : Bool) (m mode : ℕ) (opening : Bool) (phase : PlainPhase) (begun : Bool) (early late : List ℕ) (hs : List Hyperperiod) →
     record (host_of (line (hyp mode opening phase begun early late) hs) r i) { waiting = Some m } ≡ host_of (line (request_in (hyp mode opening phase begun early late) m) hs) r i
 asks r i m mode opening phase true early late hs = refl

@@ -86,7 +86,7 @@ phase_stands y (advance lost ∷ es) = refl
 steady_follows : (mode : ℕ) (phase : PlainPhase) → phase ≡ steady → (follows mode phase).phase ≡ steady
 steady_follows mode phase e = ap (λ (p : PlainPhase). (follows mode p).phase) e
 
--- an Advance that is no first beacon leaves a steady timeline_of steady
+-- an Advance that is no first beacon leaves a steady timeline steady
 steady_with : (ms : List Mark) (b c : Bool) → b ≡ false → (timeline_of ms).last.phase ≡ steady → (timeline_of ((cond b (begins ∷ []) [] ++ cond c (ended ∷ []) []) ++ ms)).last.phase ≡ steady
 steady_with ms true c e h = absurd cc
 steady_with ms false true e h = steady_follows (timeline_of ms).last.mode (timeline_of ms).last.phase h

@@ -340,9 +340,9 @@ module _ (y : System) (md a : ℕ) (fit : TaskFits y.nodes (plan_at y md) a) (so
               let is' : Is y md s.index u (task_ends a) = subst (λ z. Is y md z u (task_ends a)) at.1 is in
               let first = time_order y md w.0 w.1 w.2 s.turn s.index u (task_starts a) (task_ends a) w.3 is' (omega (arith, w.4, t', fit.wcet)) in
               let g = begun_before es st w.0 w.1 w.2 k k0 x mode_ds miss.1 l w.3 w.4 (step_back y ds s w.0 w.1 mv same (subst (λ (z : ℕ). w.1 < length (entries y z)) (sym mode_ds) w.3.0) first) (released_back y p ds s (k * P p a) mv same r) in
-              let call_state : cond (ends_run p s.turn u a) (recall v s.stay (begun_run a (ending_run_at p s.turn u a)) ds) None ≡ Some g.0 =
+              let ended_value : cond (ends_run p s.turn u a) (recall v s.stay (begun_run a (ending_run_at p s.turn u a)) ds) None ≡ Some g.0 =
                 cond-true (ends_run p s.turn u a) (recall v s.stay (begun_run a (ending_run_at p s.turn u a)) ds) None ending.0 ∙ ap (λ z. recall v z (begun_run a (ending_run_at p s.turn u a)) ds) stay_is ∙ ap (λ z. recall v st (begun_run a z) ds) ending.1 ∙ g.1 in
-              let out' = out ∙ ap (finished_or_not v a (ending_run_at p s.turn u a)) call_state in
+              let out' = out ∙ ap (finished_or_not v a (ending_run_at p s.turn u a)) ended_value in
               let says = ap (last_end a) out' ∙ cond-true (nat_eq a a) (Some (ending_run_at p s.turn u a, g.0)) None (eq-eqb a a refl) in
               absurd (let q : None ≡ Some (ending_run_at p s.turn u a, g.0) = sym miss.0 ∙ says in grind (arith, q)))
             (λ (before : BeforeSpot s n i).

@@ -62,7 +62,7 @@ follows_drains mode steady e = refl
 follows_drains mode (warn m) e = absurd cc
 follows_drains mode (drain m) e = refl
 
--- what the timeline_of sees of the next Advance
+-- what the timeline sees of the next Advance
 alike_marks : (b c : Bool) (ms : List Mark) → Alike (timeline_of ((cond b (begins ∷ []) [] ++ cond c (ended ∷ []) []) ++ ms)).last (timeline_of (cond c (ended ∷ []) [] ++ ms)).last
 alike_marks true true ms = alike_begins (ended ∷ ms)
 alike_marks true false ms = alike_begins ms

@@ -29,41 +29,42 @@ use Rattle.runtime_model.proofs.InRegisters.{start_time}
 
 -- ---- what a start says
 
--- the task and the run of a start
-abbrev start_of : Outcome → Option (ℕ × ℕ)
-start_of (started v b k ins x) = Some (b, k)
+-- the node, the task and the run of a start
+abbrev pub start_of : Outcome → Option (ℕ × (ℕ × ℕ))
+start_of (started v b k ins x) = Some (v, (b, k))
 start_of o = None
 
--- a start that is performed is one of its entry, placed, and of the run of its tick
-abbrev StartIs : Plan → Spot → ℕ → Action → ℕ → ℕ → Type 0
-StartIs p s u w b k = (w ≡ task_starts b) × (placed s.hyper.opening s.hyper.phase (own_start p u b) ≡ true) × (k ≡ run_at p s.turn u b)
+-- a start that is performed is one of its entry, placed, of the run of its tick, and on the task's node
+abbrev pub StartIs : Plan → Spot → ℕ → Action → ℕ → ℕ → ℕ → Type 0
+StartIs p s u w v b k = (w ≡ task_starts b) × (placed s.hyper.opening s.hyper.phase (own_start p u b) ≡ true) × (k ≡ run_at p s.turn u b) × (node_of p b ≡ v)
 
-started_is : (y : System) (p : Plan) (s : Spot) (lost : ℕ) (ds : List Step) (u : ℕ) (w : Action) (b k : ℕ) → start_of (performed y p s lost ds u w) ≡ Some (b, k) → StartIs p s u w b k
-started_is y p s lost ds u (task_ends a) b k e = absurd (not_ended (cond (ends_run p s.turn u a) (recall (node_of p a) s.stay (begun_run a (ending_run_at p s.turn u a)) ds) None) e)
+pub started_is : (y : System) (p : Plan) (s : Spot) (lost : ℕ) (ds : List Step) (u : ℕ) (w : Action) (v b k : ℕ) → start_of (performed y p s lost ds u w) ≡ Some (v, (b, k)) → StartIs p s u w v b k
+started_is y p s lost ds u (task_ends a) v b k e = absurd (not_ended (cond (ends_run p s.turn u a) (recall (node_of p a) s.stay (begun_run a (ending_run_at p s.turn u a)) ds) None) e)
   where
-    not_ended : (o : Option ℤ) → start_of (finished_or_not (node_of p a) a (ending_run_at p s.turn u a) o) ≡ Some (b, k) → ⊥
+    not_ended : (o : Option ℤ) → start_of (finished_or_not (node_of p a) a (ending_run_at p s.turn u a) o) ≡ Some (v, (b, k)) → ⊥
     not_ended None e = grind (arith, e)
     not_ended (Some x) e = grind (arith, e)
-started_is y p s lost ds u (beacon j) b k e = absurd (grind (arith, e))
-started_is y p s lost ds u (slot j i) b k e = absurd (not_sent (packet p s j i ds) e)
+started_is y p s lost ds u (beacon j) v b k e = absurd (grind (arith, e))
+started_is y p s lost ds u (slot j i) v b k e = absurd (not_sent (packet p s j i ds) e)
   where
-    not_sent : (o : Option (List ℤ)) → start_of (sent_or_not p y.nodes s j i ds o lost) ≡ Some (b, k) → ⊥
+    not_sent : (o : Option (List ℤ)) → start_of (sent_or_not p y.nodes s j i ds o lost) ≡ Some (v, (b, k)) → ⊥
     not_sent None e = grind (arith, e)
     not_sent (Some x) e = grind (arith, e)
-started_is y p s lost ds u (task_starts a) b k e = by_test (placed s.hyper.opening s.hyper.phase (own_start p u a)) (runs (node_of p a) ds) refl e
+started_is y p s lost ds u (task_starts a) v b k e = by_test (placed s.hyper.opening s.hyper.phase (own_start p u a)) (runs (node_of p a) ds) refl e
   where
-    by_test : (pl r : Bool) → placed s.hyper.opening s.hyper.phase (own_start p u a) ≡ pl → start_of (start_or_not y p s ds a u (pl && r)) ≡ Some (b, k) → StartIs p s u (task_starts a) b k
+    by_test : (pl r : Bool) → placed s.hyper.opening s.hyper.phase (own_start p u a) ≡ pl → start_of (start_or_not y p s ds a u (pl && r)) ≡ Some (v, (b, k)) → StartIs p s u (task_starts a) v b k
     by_test true true h e =
-        let q : (a, run_at p s.turn u a) ≡ (b, k) = grind (arith, e) in
-        let same = ap (λ (z : ℕ × ℕ). z.0) q in
-        (ap task_starts same, subst (λ z. placed s.hyper.opening s.hyper.phase (own_start p u z) ≡ true) same h, sym (ap (λ (z : ℕ × ℕ). z.1) q) ∙ ap (run_at p s.turn u) same)
+        let q : (node_of p a, (a, run_at p s.turn u a)) ≡ (v, (b, k)) = grind (arith, e) in
+        let same = ap (λ (z : ℕ × (ℕ × ℕ)). z.1.0) q in
+        (ap task_starts same, subst (λ z. placed s.hyper.opening s.hyper.phase (own_start p u z) ≡ true) same h, sym (ap (λ (z : ℕ × (ℕ × ℕ)). z.1.1) q) ∙ ap (run_at p s.turn u) same,
+          sym (ap (node_of p) same) ∙ ap (λ (z : ℕ × (ℕ × ℕ)). z.0) q)
     by_test true false h e = absurd (grind (arith, e))
     by_test false r h e = absurd (grind (arith, e))
 
 -- ---- runs and switches
 
 -- the next Advance stands at an entry of its hyperperiod
-in_entries : (y : System) (ds : List Step) (s : Spot) → Moves y ds s → 1 ≤ length (entries y s.hyper.mode) → s.index < length (entries y s.hyper.mode)
+pub in_entries : (y : System) (ds : List Step) (s : Spot) → Moves y ds s → 1 ≤ length (entries y s.hyper.mode) → s.index < length (entries y s.hyper.mode)
 in_entries y ds s m some =
     ⊎_elim (λ (h : Same y ds s). subst (λ (z : ℕ). s.index < length (entries y z)) (sym h.alike.mode) (omega (arith, h.inside, h.index)))
       (λ r. ⊎_elim (λ (h : Within y ds s). omega (arith, h.index, some)) (λ (h : Opens y ds s). omega (arith, h.index, some)) r) m
@@ -91,7 +92,7 @@ runs_end_before_switch y es lost v b k ins x ok out =
     let entry = entry_at y s in
     let u = entry.tick in
     let now = stands y (advance lost ∷ es) in
-    let is_start = started_is y p s lost ds u entry.action b k (ap start_of out) in
+    let is_start = started_is y p s lost ds u entry.action v b k (ap start_of out) in
     let first = has_beacon y.nodes p 0 (omega (arith, ok.right.shape.some, ok.right.shape.starts)) (first_tick p ok.right.s1.begin) in
     let l = in_entries y ds s (moves y ds (stands y es)) (omega (arith, first.1)) in
     let here : Is y md s.index u (task_starts b) = (l, ap (λ (w : Action). record { tick = u; action = w }) is_start.0) in

@@ -1,5 +1,5 @@
 -- Laws of the runtime, over every list of events
-use Rattle.std.specs.Prelude.{◌≡◌, ℕ, suc, ◌+◌, ◌*◌, ◌<◌, ◌≤◌, ◌↔◌, true, false, List, [], ◌∷◌, length, Contains, Option, Some, ℤ}
+use Rattle.std.specs.Prelude.{◌≡◌, ℕ, suc, ◌+◌, ◌*◌, ◌<◌, ◌≤◌, ◌↔◌, true, false, List, [], ◌∷◌, length, Contains, Option, Some, None, ℤ}
 use Rattle.sched_model.specs.PlainMode.{hyper, task_at, message_at}
 use Rattle.runtime_model.specs.Timeline.{drains}
 use Rattle.runtime_model.specs.HostCalls.{HostCall, AllMay, call_state, host_after, after_call}
@@ -13,7 +13,7 @@ use Rattle.runtime_model.specs.Packets.{held}
 use Rattle.runtime_model.specs.History.{history, outcome_of, step_of, spot_next, entry_at, last_spot, marks_of, moment}
 use Rattle.runtime_model.specs.NodeKinds.{kind, kind_by}
 use Rattle.runtime_model.specs.World.{schedule_counts, calls_of, beacon_place}
-use Rattle.runtime_model.specs.Registers.{registers, in_register, values_of}
+use Rattle.runtime_model.specs.Registers.{registers, in_register, values_of, running}
 
 -- a host that stands for a list of calls stands, after a further call whose condition holds, for the list with that call
 abbrev pub HostsKeepTime : Type 0
@@ -93,3 +93,9 @@ HostsFollowEvents = (y : System) → AllRight y → (es : List PlainEvent) → R
 -- a look back finds x exactly where some step gave it, no later one gave anything, and the node is unbroken since
 abbrev pub RecallLooksBack : Type 0 → Type 0
 RecallLooksBack X = (v stay : ℕ) (f : Outcome → Option X) (ds : List Step) (x : X) → (recall v stay f ds ≡ Some x) ↔ LookedBack v stay f ds x
+
+-- where a start is performed, no run is in progress on its node
+abbrev pub OneRunAtATime : Type 0
+OneRunAtATime = (y : System) (es : List PlainEvent) (lost v b k : ℕ) (ins : List (Option ℤ)) (x : ℤ) →
+    let s = spot_next y (history y es) in
+    RightPlan y.nodes (plan_at y s.hyper.mode) → (step_of y (advance lost) (history y es)).out ≡ started v b k ins x → running v s.stay (history y es) ≡ None

@@ -1,7 +1,7 @@
 //! Laws of the runtime. Each holds for every list of events, or of calls.
 
 ghost use Rattle.std.specs.Prelude.{List, ℤ};
-ghost use Rattle.runtime_model.specs.Laws.{BeaconGap, HostsFollowEvents, HostsKeepTime, InputsHold, KindsFollow, RecallLooksBack, RegistersHold, ReleasesFit, RunsEndBeforeSwitch, SendersAreSynced};
+ghost use Rattle.runtime_model.specs.Laws.{BeaconGap, HostsFollowEvents, HostsKeepTime, InputsHold, KindsFollow, OneRunAtATime, RecallLooksBack, RegistersHold, ReleasesFit, RunsEndBeforeSwitch, SendersAreSynced};
 
 /// A host that stands for a list of its calls stands for the list with one more, whose condition holds.
 pub fn hosts_keep_time()
@@ -61,5 +61,11 @@ pub fn releases_fit()
 /// A node that missed the last beacon, or has restarted since, does not send.
 pub fn senders_are_synced()
     ensures { SendersAreSynced }
+{
+}
+
+/// No node has two runs in progress at once, across a switch too.
+pub fn one_run_at_a_time()
+    ensures { OneRunAtATime }
 {
 }
