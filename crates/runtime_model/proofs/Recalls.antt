@@ -1,5 +1,5 @@
 -- What a look back finds
-use Rattle.std.proofs.Common.{◌≡◌, ℕ, ◌↔◌, Bool, true, false, cond, ◌&&◌, List, [], ◌∷◌, ◌++◌, refl, sym, ◌∙◌, ap, subst, arith, ◌⊎◌, inl, inr, ⊎_elim}
+use Rattle.std.proofs.Common.{◌≡◌, ℕ, Bool, true, false, cond, ◌&&◌, List, [], ◌∷◌, ◌++◌, refl, sym, ◌∙◌, ap, subst, arith, ⊎_elim}
 use Rattle.std.specs.Prelude.{nat_eq, Option, Some, None}
 use Rattle.std.proofs.lemmas.Bool.{eqb-true, eq-eqb, and_parts}
 use Rattle.runtime_model.specs.Outcomes.{Outcome, Step}
@@ -20,17 +20,19 @@ module _ (X : Type 0) (v stay : ℕ) (f : Outcome → Option X) (x : X) where
       let b = and_parts (runs v (d ∷ ds)) (nat_eq d.spot.stay stay) c.0 in
       let here = eqb-true d.spot.stay stay b.1 in
       ⊎_elim
-        (λ (now : f d.out ≡ Some x). record { newer = []; step = d; older = ds; split = refl; gives = now; latest = tt; unbroken = (b.0, here, tt) })
-        (λ (r : (f d.out ≡ None) × (recall v stay f ds ≡ Some x)).
-          let h = finds ds r.1 in
-          record {
-            newer = d ∷ h.newer; step = h.step; older = h.older;
-            split = ap (λ (zs : List Step). d ∷ zs) h.split;
-            gives = h.gives;
-            latest = (r.0, h.latest);
-            unbroken = (subst (λ (zs : List Step). runs v (d ∷ zs) ≡ true) (h.split ∙ sym (appended h.newer h.step h.older)) b.0, here, h.unbroken);
-          })
-        (or_cases (f d.out) (recall v stay f ds) x c.1)
+      (λ (now : f d.out ≡ Some x). record { newer = []; step = d; older = ds; split = refl; gives = now; latest = tt; unbroken = (b.0, here, tt) })
+      (λ (r : (f d.out ≡ None) × (recall v stay f ds ≡ Some x)).
+      let h = finds ds r.1 in
+      record {
+        newer = d ∷ h.newer;
+        step = h.step;
+        older = h.older;
+        split = ap (λ (zs : List Step). d ∷ zs) h.split;
+        gives = h.gives;
+        latest = (r.0, h.latest);
+        unbroken = (subst (λ (zs : List Step). runs v (d ∷ zs) ≡ true) (h.split ∙ sym (appended h.newer h.step h.older)) b.0, here, h.unbroken);
+      })
+      (or_cases (f d.out) (recall v stay f ds) x c.1)
 
   passed_over : (b : Bool) (o w : Option X) → b ≡ true → o ≡ None → w ≡ Some x → cond b (or_else o w) None ≡ Some x
   passed_over true None w e n h = h

@@ -84,7 +84,7 @@ pub record HostFollows (y : System) (ds : List Step) : Type 0 where
   pub each_may : AllMay (schedule_counts y) (calls_of y ds)
   pub marks : (call_state (schedule_counts y) (calls_of y ds)).marks ≡ marks_of ds
   pub inside : (call_state (schedule_counts y) (calls_of y ds)).inside ≡ true →
-    (d : Step) × (last_beacon ds ≡ Some d) × ((call_state (schedule_counts y) (calls_of y ds)).round ≡ suc (beacon_place y d d.out))
+      (d : Step) × (last_beacon ds ≡ Some d) × ((call_state (schedule_counts y) (calls_of y ds)).round ≡ suc (beacon_place y d d.out))
   pub outside : (call_state (schedule_counts y) (calls_of y ds)).inside ≡ false → (call_state (schedule_counts y) (calls_of y ds)).round ≡ 1
 
 abbrev pub HostsFollowEvents : Type 0
