@@ -11,18 +11,18 @@ use Rattle.runtime_model.specs.HostCalls.{HostCall, request_call, next_beacon_ca
 use Rattle.runtime_model.specs.Plans.{Plan, node_of, round_counts, first_round}
 use Rattle.runtime_model.specs.Entries.{Entry, Action, task_ends, beacon, slot, task_starts}
 use Rattle.runtime_model.specs.Placement.{placed, own_start, ends_run, ending_run_at}
-use Rattle.runtime_model.specs.Outcomes.{PlainEvent, advance, request, restart, Outcome, beaconed, Spot, Step, is_beacon, begun_run}
+use Rattle.runtime_model.specs.Outcomes.{PlainEvent, advance, request, restart, Spot, Step, is_beacon, begun_run}
 use Rattle.runtime_model.specs.LookingBack.{last_beacon, runs, recall}
 use Rattle.runtime_model.specs.System.{System, plan_at, no_plan}
 use Rattle.runtime_model.specs.Packets.{packet}
 use Rattle.runtime_model.specs.History.{history, step_of, spot_next, entries, entry_at, last_spot, next_place, marks_of, turns, arrival, is_first_beacon, performed, finished_or_not, sent_or_not, start_or_not}
 use Rattle.runtime_model.specs.Script.{opens_round}
 use Rattle.runtime_model.specs.World.{schedule_counts, has_ended, own_calls, calls_of, beacon_place}
-use Rattle.runtime_model.specs.Laws.{AllRight, RequestsFit, HostFollows, HostsFollowEvents}
+use Rattle.runtime_model.specs.Laws.{AllRight, RequestsFit, HostsFollowEvents}
 use Rattle.runtime_model.proofs.Cycles.{none, entry_right, RightAt}
 use Rattle.runtime_model.proofs.Once.{beacon_once}
 use Rattle.runtime_model.proofs.OutRegisters.{Is}
-use Rattle.runtime_model.proofs.Spots.{Same, Within, Opens, Moves, moves, stands}
+use Rattle.runtime_model.proofs.Spots.{Same, Within, Opens, moves, stands}
 use Rattle.runtime_model.proofs.Beacons.{BeaconAt, Seen, Unseen, outcome_is, seen_entry, beacon_order, some_round, some, not_lower, not_unseen, index_now}
 use Rattle.runtime_model.proofs.Knowing.{arrival_mode, first_is}
 
@@ -62,17 +62,17 @@ end_other rounds s ms r c l =
 -- the beacon of the first round, and of a later one
 first_beacon : (rounds : List ℕ) (s : CallState) (ms : List Mark) → Comes s ms 1 false → Comes (call_step rounds next_beacon_call s) (begins ∷ ms) 1 true
 first_beacon rounds s ms c = record {
-    marks = cond-true (nat_eq s.round 1) (begins ∷ s.marks) s.marks (eq-eqb s.round 1 c.round) ∙ ap (λ (m : List Mark). begins ∷ m) c.marks;
-    round = c.round;
-    inside = refl;
-  }
+  marks = cond-true (nat_eq s.round 1) (begins ∷ s.marks) s.marks (eq-eqb s.round 1 c.round) ∙ ap (λ (m : List Mark). begins ∷ m) c.marks;
+  round = c.round;
+  inside = refl;
+}
 
 later_beacon : (rounds : List ℕ) (s : CallState) (ms : List Mark) (r : ℕ) → Comes s ms (suc (suc r)) false → Comes (call_step rounds next_beacon_call s) ms (suc (suc r)) true
 later_beacon rounds s ms r c = record {
-    marks = cond-false (nat_eq s.round 1) (begins ∷ s.marks) s.marks (not_one s.round r c.round) ∙ c.marks;
-    round = c.round;
-    inside = refl;
-  }
+  marks = cond-false (nat_eq s.round 1) (begins ∷ s.marks) s.marks (not_one s.round r c.round) ∙ c.marks;
+  round = c.round;
+  inside = refl;
+}
 
 -- ---- what a step adds
 counts_at : (ps : List Plan) (md : ℕ) → rounds_in (round_counts (map (λ p. p.schedule) ps)) md ≡ length (get_or ps md no_plan).schedule.starts
@@ -143,14 +143,21 @@ module _ (y : System) (right : AllRight y) where
       let e = entry_at y s in
       let d = step_of y (advance lost) ds in
       let mode = m.alike.mode in
-      let is = outcome_is y (plan_at y s.hyper.mode) s lost ds e.tick e.action in
-      (record {
-          done = h.done; is_last = cond-false (is_beacon d.out) (Some d) (last_beacon ds) (is ∙ no_beacon) ∙ h.is_last; stay = h.stay ∙ sym m.stay; turn = h.turn ∙ sym m.turn; mode = h.mode ∙ sym mode; begin = h.begin ∙ sym m.begin;
+      let is = outcome_is y (plan_at y s.hyper.mode) s lost ds e.tick e.action in (
+        record {
+          done = h.done;
+          is_last = cond-false (is_beacon d.out) (Some d) (last_beacon ds) (is ∙ no_beacon) ∙ h.is_last;
+          stay = h.stay ∙ sym m.stay;
+          turn = h.turn ∙ sym m.turn;
+          mode = h.mode ∙ sym mode;
+          begin = h.begin ∙ sym m.begin;
           past = omega (arith, h.past, m.index);
           inside = subst (λ (z : ℕ). h.done.spot.index < length (entries y z)) (sym mode) h.inside;
           is_beacon = ap (λ (z : ℕ). opens_round (get_or (entries y z) h.done.spot.index none).action) mode ∙ h.is_beacon;
           quiet = λ i a b. quiet_more y (d ∷ ds) s.index (suc h.done.spot.index) (λ i a b. ap (λ (z : ℕ). opens_round (get_or (entries y z) i none).action) mode ∙ h.quiet i (omega (arith, a)) (omega (arith, b, m.index))) no_beacon i (omega (arith, a)) b;
-        }, refl)
+        },
+        refl,
+      )
 
   unseen_still : (es : List PlainEvent) (lost : ℕ) → Same y (history y es) (spot_next y (history y es)) → opens_round (entry_at y (spot_next y (history y es))).action ≡ false → Unseen y (history y es) → Unseen y (history y (advance lost ∷ es))
   unseen_still es lost m no_beacon h i b =
@@ -184,12 +191,12 @@ module _ (y : System) (right : AllRight y) where
       let some_rounds = some_round y right es in
       let last = beacon_place_of md (r - 1) (right es) (omega (arith, some_rounds)) in
       ⊎_elim
-        (λ (q : (h : Seen y (history y es)) × (j : ℕ) × Is y md h.done.spot.index (natural (round_start (plan_at y md).schedule j)) (beacon j) × (beacon_place y h.done h.done.out ≡ j) × Comes s (marks_of (history y es)) (suc j) true).
-          let low = not_lower y right es q.0 q.1 (r - 1) last.0 q.2 last.1 (omega (arith, last.1.0, over)) in
-          let here = (subst (λ (x : Entry). RightAt (plan_at y md) x.tick x.action) q.2.1 (entry_right y.nodes (plan_at y md) q.0.done.spot.index q.2.0).1) in
-          (suc q.1, omega (arith, low, here.0, some_rounds, count_now es), q.4))
-        (λ (q : Unseen y (history y es) × Comes s (marks_of (history y es)) 1 false). absurd (not_unseen y right es q.0 last.0 (r - 1) (natural (round_start (plan_at y md).schedule (r - 1))) last.1 (omega (arith, last.1.0, over))))
-        at
+      (λ (q : (h : Seen y (history y es)) × (j : ℕ) × Is y md h.done.spot.index (natural (round_start (plan_at y md).schedule j)) (beacon j) × (beacon_place y h.done h.done.out ≡ j) × Comes s (marks_of (history y es)) (suc j) true).
+      let low = not_lower y right es q.0 q.1 (r - 1) last.0 q.2 last.1 (omega (arith, last.1.0, over)) in
+      let here = (subst (λ (x : Entry). RightAt (plan_at y md) x.tick x.action) q.2.1 (entry_right y.nodes (plan_at y md) q.0.done.spot.index q.2.0).1) in
+      (suc q.1, omega (arith, low, here.0, some_rounds, count_now es), q.4))
+      (λ (q : Unseen y (history y es) × Comes s (marks_of (history y es)) 1 false). absurd (not_unseen y right es q.0 last.0 (r - 1) (natural (round_start (plan_at y md).schedule (r - 1))) last.1 (omega (arith, last.1.0, over))))
+      at
     where
       beacon_place_of : (md j : ℕ) → Rattle.runtime_model.specs.Plans.RightPlan y.nodes (plan_at y md) → j < length (plan_at y md).schedule.starts → (i : ℕ) × Is y md i (natural (round_start (plan_at y md).schedule j)) (beacon j)
       beacon_place_of md j ok l = Rattle.runtime_model.proofs.Beacons.beacon_place y md ok j l
@@ -218,9 +225,11 @@ module _ (y : System) (right : AllRight y) where
   still_at : (es : List PlainEvent) (lost j : ℕ) → Same y (history y es) (spot_next y (history y es)) → opens_round (entry_at y (spot_next y (history y es))).action ≡ false → SeenAt (history y es) j → SeenAt (history y (advance lost ∷ es)) j
   still_at es lost j m no_beacon h =
       let g = seen_still es lost m no_beacon h.0 in
-      let is = subst (λ (z : ℕ). Is y z h.0.done.spot.index (natural (round_start (plan_at y z).schedule j)) (beacon j)) (sym m.alike.mode) h.1 in
-      (g.0, subst (λ (q : Step). Is y (spot_next y (history y es)).hyper.mode q.spot.index (natural (round_start (plan_at y (spot_next y (history y es)).hyper.mode).schedule j)) (beacon j)) (sym g.1) is,
-        ap (λ (q : Step). beacon_place y q q.out) g.1 ∙ h.2)
+      let is = subst (λ (z : ℕ). Is y z h.0.done.spot.index (natural (round_start (plan_at y z).schedule j)) (beacon j)) (sym m.alike.mode) h.1 in (
+        g.0,
+        subst (λ (q : Step). Is y (spot_next y (history y es)).hyper.mode q.spot.index (natural (round_start (plan_at y (spot_next y (history y es)).hyper.mode).schedule j)) (beacon j)) (sym g.1) is,
+        ap (λ (q : Step). beacon_place y q q.out) g.1 ∙ h.2,
+      )
 
   -- the calls and the marks of one more Advance
   step_lists : (es : List PlainEvent) (lost : ℕ) (own : List HostCall) (f t : Bool) → let ds = history y es in let d = step_of y (advance lost) ds in
@@ -231,9 +240,9 @@ module _ (y : System) (right : AllRight y) where
       let d = step_of y (advance lost) ds in
       let first = is_first_beacon (entry_at y (arrival y ds)).action in
       settle y (d ∷ ds) (calls_of y (d ∷ ds)) (own ++ (cond t (end_round_call ∷ []) [] ++ calls_of y ds)) (marks_of (d ∷ ds)) ((cond f (begins ∷ []) [] ++ cond t (ended ∷ []) []) ++ marks_of ds)
-        (ap (λ (o : List HostCall). o ++ (cond (has_ended d.marks) (end_round_call ∷ []) [] ++ calls_of y ds)) own_is ∙ ap (λ (b : Bool). own ++ (cond b (end_round_call ∷ []) [] ++ calls_of y ds)) (ended_in first (turns y ds) ∙ t_is))
-        (ap (λ (b : Bool). (cond b (begins ∷ []) [] ++ cond (turns y ds) (ended ∷ []) []) ++ marks_of ds) (first_value es ∙ f_is) ∙ ap (λ (b : Bool). (cond f (begins ∷ []) [] ++ cond b (ended ∷ []) []) ++ marks_of ds) t_is)
-        w
+      (ap (λ (o : List HostCall). o ++ (cond (has_ended d.marks) (end_round_call ∷ []) [] ++ calls_of y ds)) own_is ∙ ap (λ (b : Bool). own ++ (cond b (end_round_call ∷ []) [] ++ calls_of y ds)) (ended_in first (turns y ds) ∙ t_is))
+      (ap (λ (b : Bool). (cond b (begins ∷ []) [] ++ cond (turns y ds) (ended ∷ []) []) ++ marks_of ds) (first_value es ∙ f_is) ∙ ap (λ (b : Bool). (cond f (begins ∷ []) [] ++ cond b (ended ∷ []) []) ++ marks_of ds) t_is)
+      w
 
   goes_on : (m n : ℕ) → m < n → not (nat_lt m n) ≡ false
   goes_on m n l = grind (arith, l)
@@ -253,19 +262,21 @@ module _ (y : System) (right : AllRight y) where
       let own = quiet_calls y d (plan_at y s.hyper.mode) s lost ds e.tick e.action no_beacon in
       let first = first_is e.action no_beacon in
       let turn = λ (over : length (entries y (last_spot ds).hyper.mode) ≤ next_place ds) (index : s.index ≡ 0).
-          let o = over_is_last es st over w.1 in
-          let c = end_last (schedule_counts y) st (marks_of ds) o.0 o.2 o.1 in
-          step_lists es lost [] false true own first (is_over (next_place ds) (length (entries y (last_spot ds).hyper.mode)) over)
-            ((o.2.inside, w.0), inr (unseen_anew es lost index no_beacon, c)) in
+      let o = over_is_last es st over w.1 in
+      let c = end_last (schedule_counts y) st (marks_of ds) o.0 o.2 o.1 in
+      step_lists es lost [] false true own first (is_over (next_place ds) (length (entries y (last_spot ds).hyper.mode)) over)
+      ((o.2.inside, w.0), inr (unseen_anew es lost index no_beacon, c)) in
       ⊎_elim
-        (λ (m : Same y ds s). step_lists es lost [] false false own first (goes_on (next_place ds) (length (entries y (last_spot ds).hyper.mode)) m.inside)
-          (w.0, ⊎_elim
+      (λ (m : Same y ds s). step_lists es lost [] false false own first (goes_on (next_place ds) (length (entries y (last_spot ds).hyper.mode)) m.inside) (
+        w.0,
+        ⊎_elim
             (λ (q : (h : Seen y ds) × (j : ℕ) × Is y (last_spot ds).hyper.mode h.done.spot.index (natural (round_start (plan_at y (last_spot ds).hyper.mode).schedule j)) (beacon j) × (beacon_place y h.done h.done.out ≡ j) × Comes st (marks_of ds) (suc j) true).
-              let g = still_at es lost q.1 m no_beacon (q.0, q.2, q.3) in inl (g.0, q.1, g.1, g.2, q.4))
+            let g = still_at es lost q.1 m no_beacon (q.0, q.2, q.3) in inl (g.0, q.1, g.1, g.2, q.4))
             (λ (q : Unseen y ds × Comes st (marks_of ds) 1 false). inr (unseen_still es lost m no_beacon q.0, q.1))
-            w.1))
-        (λ r. ⊎_elim (λ (m : Within y ds s). turn m.over m.index) (λ (m : Opens y ds s). turn m.over m.index) r)
-        (moves y ds (stands y es))
+            w.1,
+      ))
+      (λ r. ⊎_elim (λ (m : Within y ds s). turn m.over m.index) (λ (m : Opens y ds s). turn m.over m.index) r)
+      (moves y ds (stands y es))
 
   -- the calls of a beacon: that of the first round, and that of a later one
   own_first : (es : List PlainEvent) (lost j : ℕ) → (entry_at y (spot_next y (history y es))).action ≡ beacon j → j ≡ 0 → own_calls y (step_of y (advance lost) (history y es)) (step_of y (advance lost) (history y es)).out ≡ next_beacon_call ∷ []
@@ -274,7 +285,7 @@ module _ (y : System) (right : AllRight y) where
       let s = spot_next y ds in
       let n = first_round y.plans s.hyper.mode in
       ap (λ (w : Action). own_calls y (step_of y (advance lost) ds) (performed y (plan_at y s.hyper.mode) s lost ds (entry_at y s).tick w)) act
-        ∙ ap (λ (b : Bool). next_beacon_call ∷ cond b [] (end_round_call ∷ [])) (eq-eqb (n + j) n (omega (arith, e)))
+      ∙ ap (λ (b : Bool). next_beacon_call ∷ cond b [] (end_round_call ∷ [])) (eq-eqb (n + j) n (omega (arith, e)))
 
   own_later : (es : List PlainEvent) (lost j i : ℕ) → (entry_at y (spot_next y (history y es))).action ≡ beacon j → j ≡ suc i → own_calls y (step_of y (advance lost) (history y es)) (step_of y (advance lost) (history y es)).out ≡ next_beacon_call ∷ end_round_call ∷ []
   own_later es lost j i act e =
@@ -282,7 +293,7 @@ module _ (y : System) (right : AllRight y) where
       let s = spot_next y ds in
       let n = first_round y.plans s.hyper.mode in
       ap (λ (w : Action). own_calls y (step_of y (advance lost) ds) (performed y (plan_at y s.hyper.mode) s lost ds (entry_at y s).tick w)) act
-        ∙ ap (λ (b : Bool). next_beacon_call ∷ cond b [] (end_round_call ∷ [])) (apart n j i e)
+      ∙ ap (λ (b : Bool). next_beacon_call ∷ cond b [] (end_round_call ∷ [])) (apart n j i e)
     where
       apart : (n j i : ℕ) → j ≡ suc i → nat_eq (n + j) n ≡ false
       apart n j i e = grind (arith, e)
@@ -307,42 +318,45 @@ module _ (y : System) (right : AllRight y) where
       let first = λ (z : j ≡ 0). ap is_first_beacon act ∙ ap (λ (k : ℕ). is_first_beacon (beacon k)) z in
       let seen_first = λ (z : j ≡ 0) (c : CallState) (ms : List Mark) (come : Comes c ms 1 true). let come' = subst (λ (k : ℕ). Comes c ms k true) (let q : 1 ≡ suc j = omega (arith, z) in q) come in come' in
       let turn = λ (over : len ≤ next_place ds) (index : s.index ≡ 0).
-          let z : j ≡ 0 = not_after origin.0 s.index j (beacon_order y md ok origin.0 0 s.index j (natural (round_start p.schedule 0)) e.tick origin.1 is) (omega (arith, index)) in
-          let o = over_is_last es st over w.1 in
-          let c = end_last rounds st (marks_of ds) o.0 o.2 o.1 in
-          let b = first_beacon rounds (call_step rounds end_round_call st) (ended ∷ marks_of ds) c in
-          step_lists es lost (next_beacon_call ∷ []) true true (own_first es lost j act z) (first z) (is_over (next_place ds) len over)
-            ((c.inside, (o.2.inside, w.0)), inl (g.0, j, g.1, g.2, seen_first z (call_step rounds next_beacon_call (call_step rounds end_round_call st)) (begins ∷ ended ∷ marks_of ds) b)) in
+      let z : j ≡ 0 = not_after origin.0 s.index j (beacon_order y md ok origin.0 0 s.index j (natural (round_start p.schedule 0)) e.tick origin.1 is) (omega (arith, index)) in
+      let o = over_is_last es st over w.1 in
+      let c = end_last rounds st (marks_of ds) o.0 o.2 o.1 in
+      let b = first_beacon rounds (call_step rounds end_round_call st) (ended ∷ marks_of ds) c in
+      step_lists es lost (next_beacon_call ∷ []) true true (own_first es lost j act z) (first z) (is_over (next_place ds) len over)
+      ((c.inside, (o.2.inside, w.0)), inl (g.0, j, g.1, g.2, seen_first z (call_step rounds next_beacon_call (call_step rounds end_round_call st)) (begins ∷ ended ∷ marks_of ds) b)) in
       ⊎_elim
-        (λ (m : Same y ds s).
-          let mode = m.alike.mode in
-          let is' : Is y (last_spot ds).hyper.mode s.index e.tick (beacon j) = subst (λ (z : ℕ). Is y z s.index e.tick (beacon j)) mode is in
-          ⊎_elim
-            (λ (q : (h : Seen y ds) × (k : ℕ) × Is y (last_spot ds).hyper.mode h.done.spot.index (natural (round_start (plan_at y (last_spot ds).hyper.mode).schedule k)) (beacon k) × (beacon_place y h.done h.done.out ≡ k) × Comes st (marks_of ds) (suc k) true).
-              let next = follows_seen es (right es) q.0 q.1 q.2 s.index e.tick j is' m.index in
-              let later : j ≡ suc q.1 = sym next in
-              let room : suc q.1 < rounds_in rounds (timeline_of (marks_of ds)).last.mode = omega (arith, next, at.0, count_now es, ap (λ z. length (plan_at y z).schedule.starts) mode) in
-              let c = end_other rounds st (marks_of ds) (suc q.1) q.4 room in
-              let b = later_beacon rounds (call_step rounds end_round_call st) (marks_of ds) q.1 c in
-              let b' = subst (λ (k : ℕ). Comes (call_step rounds next_beacon_call (call_step rounds end_round_call st)) (marks_of ds) (suc k) true) next b in
-              step_lists es lost (next_beacon_call ∷ end_round_call ∷ []) false false (own_later es lost j q.1 act later) (ap is_first_beacon act ∙ ap (λ (k : ℕ). is_first_beacon (beacon k)) later) (goes_on (next_place ds) len m.inside)
-                ((c.inside, (q.4.inside, w.0)), inl (g.0, j, g.1, g.2, b')))
-            (λ (q : Unseen y ds × Comes st (marks_of ds) 1 false).
-              let origin' = subst (λ (z : ℕ). Is y z origin.0 (natural (round_start p.schedule 0)) (beacon 0)) mode origin.1 in
-              let z : j ≡ 0 = not_later j (λ later. not_unseen y right es q.0 origin.0 0 (natural (round_start p.schedule 0)) origin' (omega (arith, beacon_order y md ok origin.0 0 s.index j (natural (round_start p.schedule 0)) e.tick origin.1 is later, m.index))) in
-              let b = first_beacon rounds st (marks_of ds) q.1 in
-              step_lists es lost (next_beacon_call ∷ []) true false (own_first es lost j act z) (first z) (goes_on (next_place ds) len m.inside)
-                ((q.1.inside, w.0), inl (g.0, j, g.1, g.2, seen_first z (call_step rounds next_beacon_call st) (begins ∷ marks_of ds) b)))
-            w.1)
-        (λ r. ⊎_elim (λ (m : Within y ds s). turn m.over m.index) (λ (m : Opens y ds s). turn m.over m.index) r)
-        (moves y ds (stands y es))
+      (λ (m : Same y ds s).
+      let mode = m.alike.mode in
+      let is' : Is y (last_spot ds).hyper.mode s.index e.tick (beacon j) = subst (λ (z : ℕ). Is y z s.index e.tick (beacon j)) mode is in
+      ⊎_elim
+      (λ (q : (h : Seen y ds) × (k : ℕ) × Is y (last_spot ds).hyper.mode h.done.spot.index (natural (round_start (plan_at y (last_spot ds).hyper.mode).schedule k)) (beacon k) × (beacon_place y h.done h.done.out ≡ k) × Comes st (marks_of ds) (suc k) true).
+      let next = follows_seen es (right es) q.0 q.1 q.2 s.index e.tick j is' m.index in
+      let later : j ≡ suc q.1 = sym next in
+      let room : suc q.1 < rounds_in rounds (timeline_of (marks_of ds)).last.mode = omega (arith, next, at.0, count_now es, ap (λ z. length (plan_at y z).schedule.starts) mode) in
+      let c = end_other rounds st (marks_of ds) (suc q.1) q.4 room in
+      let b = later_beacon rounds (call_step rounds end_round_call st) (marks_of ds) q.1 c in
+      let b' = subst (λ (k : ℕ). Comes (call_step rounds next_beacon_call (call_step rounds end_round_call st)) (marks_of ds) (suc k) true) next b in
+      step_lists es lost (next_beacon_call ∷ end_round_call ∷ []) false false (own_later es lost j q.1 act later) (ap is_first_beacon act ∙ ap (λ (k : ℕ). is_first_beacon (beacon k)) later) (goes_on (next_place ds) len m.inside)
+      ((c.inside, (q.4.inside, w.0)), inl (g.0, j, g.1, g.2, b')))
+      (λ (q : Unseen y ds × Comes st (marks_of ds) 1 false).
+      let origin' = subst (λ (z : ℕ). Is y z origin.0 (natural (round_start p.schedule 0)) (beacon 0)) mode origin.1 in
+      let z : j ≡ 0 = not_later j (λ later. not_unseen y right es q.0 origin.0 0 (natural (round_start p.schedule 0)) origin' (omega (arith, beacon_order y md ok origin.0 0 s.index j (natural (round_start p.schedule 0)) e.tick origin.1 is later, m.index))) in
+      let b = first_beacon rounds st (marks_of ds) q.1 in
+      step_lists es lost (next_beacon_call ∷ []) true false (own_first es lost j act z) (first z) (goes_on (next_place ds) len m.inside)
+      ((q.1.inside, w.0), inl (g.0, j, g.1, g.2, seen_first z (call_step rounds next_beacon_call st) (begins ∷ marks_of ds) b)))
+      w.1)
+      (λ r. ⊎_elim (λ (m : Within y ds s). turn m.over m.index) (λ (m : Opens y ds s). turn m.over m.index) r)
+      (moves y ds (stands y es))
     where
       beacon_place_in : (md j : ℕ) → Rattle.runtime_model.specs.Plans.RightPlan y.nodes (plan_at y md) → j < length (plan_at y md).schedule.starts → (i : ℕ) × Is y md i (natural (round_start (plan_at y md).schedule j)) (beacon j)
       beacon_place_in md j ok l = Rattle.runtime_model.proofs.Beacons.beacon_place y md ok j l
+
       not_after : (a b j : ℕ) → (0 < j → a < b) → b ≤ 0 → j ≡ 0
       not_after a b j f l = ⊎_elim (λ (later : 0 < j). absurd (omega (arith, f later, l))) (λ (z : j ≤ 0). omega (arith, z)) (cases_lt 0 j)
+
       not_later : (j : ℕ) → (0 < j → ⊥) → j ≡ 0
       not_later j f = ⊎_elim (λ (later : 0 < j). absurd (f later)) (λ (z : j ≤ 0). omega (arith, z)) (cases_lt 0 j)
+
       -- the next beacon of a hyperperiod is that of the next round
       follows_seen : (es : List PlainEvent) → Rattle.runtime_model.specs.Plans.RightPlan y.nodes (plan_at y (last_spot (history y es)).hyper.mode) → (h : Seen y (history y es)) (k : ℕ) →
           Is y (last_spot (history y es)).hyper.mode h.done.spot.index (natural (round_start (plan_at y (last_spot (history y es)).hyper.mode).schedule k)) (beacon k) →
@@ -352,20 +366,20 @@ module _ (y : System) (right : AllRight y) where
           let p = plan_at y md in
           let here = (subst (λ (x : Entry). RightAt p x.tick x.action) is.1 (entry_right y.nodes p i is.0).1) in
           ⊎_elim
-            (λ (less : k < j).
-              let before = beacon_place_in md (j - 1) ok (omega (arith, here.0)) in
-              let sooner = beacon_order y md ok before.0 (j - 1) i j (natural (round_start p.schedule (j - 1))) t before.1 is (omega (arith, less)) in
-              let low = not_lower y right es h k (j - 1) before.0 at before.1 (omega (arith, sooner, now)) in
-              omega (arith, less, low))
-            (λ (le : j ≤ k). ⊎_elim
-              (λ (less : j < k). absurd (omega (arith, beacon_order y md ok i j h.done.spot.index k t (natural (round_start p.schedule k)) is at less, h.past, now)))
-              (λ (ge : k ≤ j).
-                let same : k ≡ j = omega (arith, le, ge) in
-                let at' = subst (λ z. Is y md h.done.spot.index (natural (round_start p.schedule z)) (beacon z)) same at in
-                let is' = subst (λ z. Is y md i z (beacon j)) (sym here.1) is in
-                absurd (omega (arith, beacon_once y.nodes p (natural (round_start p.schedule j)) j h.done.spot.index i at'.0 is'.0 at'.1 is'.1, h.past, now)))
-              (cases_lt j k))
-            (cases_lt k j)
+          (λ (less : k < j).
+          let before = beacon_place_in md (j - 1) ok (omega (arith, here.0)) in
+          let sooner = beacon_order y md ok before.0 (j - 1) i j (natural (round_start p.schedule (j - 1))) t before.1 is (omega (arith, less)) in
+          let low = not_lower y right es h k (j - 1) before.0 at before.1 (omega (arith, sooner, now)) in
+          omega (arith, less, low))
+          (λ (le : j ≤ k). ⊎_elim
+          (λ (less : j < k). absurd (omega (arith, beacon_order y md ok i j h.done.spot.index k t (natural (round_start p.schedule k)) is at less, h.past, now)))
+          (λ (ge : k ≤ j).
+          let same : k ≡ j = omega (arith, le, ge) in
+          let at' = subst (λ z. Is y md h.done.spot.index (natural (round_start p.schedule z)) (beacon z)) same at in
+          let is' = subst (λ z. Is y md i z (beacon j)) (sym here.1) is in
+          absurd (omega (arith, beacon_once y.nodes p (natural (round_start p.schedule j)) j h.done.spot.index i at'.0 is'.0 at'.1 is'.1, h.past, now)))
+          (cases_lt j k))
+          (cases_lt k j)
 
   -- ---- every list of events
   after : (es : List PlainEvent) → RequestsFit y es → After y (history y es) (calls_of y (history y es)) (marks_of (history y es))
@@ -374,29 +388,33 @@ module _ (y : System) (right : AllRight y) where
       let w = after es f.1 in
       let st = call_state (schedule_counts y) (calls_of y (history y es)) in
       let asks = λ (r : ℕ) (i : Bool) (c : Comes st (marks_of (history y es)) r i).
-          let n : Comes (call_step (schedule_counts y) (request_call m) st) (asked m ∷ marks_of (history y es)) r i = record { marks = ap (λ (ms : List Mark). asked m ∷ ms) c.marks; round = c.round; inside = c.inside } in n in
-      ((in_range m f.0, w.0), ⊎_elim
-        (λ (q : (h : Seen y (history y es)) × (j : ℕ) × Is y (last_spot (history y es)).hyper.mode h.done.spot.index (natural (round_start (plan_at y (last_spot (history y es)).hyper.mode).schedule j)) (beacon j) × (beacon_place y h.done h.done.out ≡ j) × Comes st (marks_of (history y es)) (suc j) true).
-          let h = q.0 in inl (record { done = h.done; is_last = h.is_last; stay = h.stay; turn = h.turn; mode = h.mode; begin = h.begin; past = h.past; inside = h.inside; is_beacon = h.is_beacon; quiet = h.quiet }, q.1, q.2, q.3, asks (suc q.1) true q.4))
-        (λ (q : Unseen y (history y es) × Comes st (marks_of (history y es)) 1 false). inr (q.0, asks 1 false q.1))
-        w.1)
+      let n : Comes (call_step (schedule_counts y) (request_call m) st) (asked m ∷ marks_of (history y es)) r i = record { marks = ap (λ (ms : List Mark). asked m ∷ ms) c.marks; round = c.round; inside = c.inside } in n in (
+        (in_range m f.0, w.0),
+        ⊎_elim
+            (λ (q : (h : Seen y (history y es)) × (j : ℕ) × Is y (last_spot (history y es)).hyper.mode h.done.spot.index (natural (round_start (plan_at y (last_spot (history y es)).hyper.mode).schedule j)) (beacon j) × (beacon_place y h.done h.done.out ≡ j) × Comes st (marks_of (history y es)) (suc j) true).
+            let h = q.0 in inl (record { done = h.done; is_last = h.is_last; stay = h.stay; turn = h.turn; mode = h.mode; begin = h.begin; past = h.past; inside = h.inside; is_beacon = h.is_beacon; quiet = h.quiet }, q.1, q.2, q.3, asks (suc q.1) true q.4))
+            (λ (q : Unseen y (history y es) × Comes st (marks_of (history y es)) 1 false). inr (q.0, asks 1 false q.1))
+            w.1,
+      )
     where
       in_range : (m : ℕ) → m < length y.plans → m < length (schedule_counts y)
       in_range m l = omega (arith, l, length-map (map (λ (p : Plan). p.schedule) y.plans) (λ (s : Schedule). length s.starts), length-map y.plans (λ (p : Plan). p.schedule))
   after (restart v ∷ es) f =
       let w = after es f in
-      let st = call_state (schedule_counts y) (calls_of y (history y es)) in
-      (w.0, ⊎_elim
-        (λ (q : (h : Seen y (history y es)) × (j : ℕ) × Is y (last_spot (history y es)).hyper.mode h.done.spot.index (natural (round_start (plan_at y (last_spot (history y es)).hyper.mode).schedule j)) (beacon j) × (beacon_place y h.done h.done.out ≡ j) × Comes st (marks_of (history y es)) (suc j) true).
-          let h = q.0 in inl (record { done = h.done; is_last = h.is_last; stay = h.stay; turn = h.turn; mode = h.mode; begin = h.begin; past = h.past; inside = h.inside; is_beacon = h.is_beacon; quiet = h.quiet }, q.1, q.2, q.3, q.4))
-        (λ (q : Unseen y (history y es) × Comes st (marks_of (history y es)) 1 false). inr (q.0, q.1))
-        w.1)
+      let st = call_state (schedule_counts y) (calls_of y (history y es)) in (
+        w.0,
+        ⊎_elim
+            (λ (q : (h : Seen y (history y es)) × (j : ℕ) × Is y (last_spot (history y es)).hyper.mode h.done.spot.index (natural (round_start (plan_at y (last_spot (history y es)).hyper.mode).schedule j)) (beacon j) × (beacon_place y h.done h.done.out ≡ j) × Comes st (marks_of (history y es)) (suc j) true).
+            let h = q.0 in inl (record { done = h.done; is_last = h.is_last; stay = h.stay; turn = h.turn; mode = h.mode; begin = h.begin; past = h.past; inside = h.inside; is_beacon = h.is_beacon; quiet = h.quiet }, q.1, q.2, q.3, q.4))
+            (λ (q : Unseen y (history y es) × Comes st (marks_of (history y es)) 1 false). inr (q.0, q.1))
+            w.1,
+      )
   after (advance lost ∷ es) f =
       let e = entry_at y (spot_next y (history y es)) in
       ⊎_elim
-        (λ (rings : opens_round e.action ≡ true). let q = seen_entry e.action rings in beacon_step es lost q.0 q.1 (after es f))
-        (λ (quiet : opens_round e.action ≡ false). quiet_step es lost quiet (after es f))
-        (cases_Bool (opens_round e.action))
+      (λ (rings : opens_round e.action ≡ true). let q = seen_entry e.action rings in beacon_step es lost q.0 q.1 (after es f))
+      (λ (quiet : opens_round e.action ≡ false). quiet_step es lost quiet (after es f))
+      (cases_Bool (opens_round e.action))
 
 pub hosts_follow_events : HostsFollowEvents
 hosts_follow_events y right es f =
@@ -404,16 +422,18 @@ hosts_follow_events y right es f =
     let st = call_state (schedule_counts y) (calls_of y ds) in
     let w = after y right es f in
     ⊎_elim
-      (λ (q : (h : Seen y ds) × (j : ℕ) × Is y (last_spot ds).hyper.mode h.done.spot.index (natural (round_start (plan_at y (last_spot ds).hyper.mode).schedule j)) (beacon j) × (beacon_place y h.done h.done.out ≡ j) × Comes st (marks_of ds) (suc j) true).
-        record {
-          each_may = w.0; marks = q.4.marks;
-          inside = λ i. (q.0.done, q.0.is_last, q.4.round ∙ ap suc (sym q.3));
-          outside = λ o. absurd (let z : true ≡ false = sym q.4.inside ∙ o in cc);
-        })
-      (λ (q : Unseen y ds × Comes st (marks_of ds) 1 false).
-        record {
-          each_may = w.0; marks = q.1.marks;
-          inside = λ i. absurd (let z : true ≡ false = sym i ∙ q.1.inside in cc);
-          outside = λ o. q.1.round;
-        })
-      w.1
+    (λ (q : (h : Seen y ds) × (j : ℕ) × Is y (last_spot ds).hyper.mode h.done.spot.index (natural (round_start (plan_at y (last_spot ds).hyper.mode).schedule j)) (beacon j) × (beacon_place y h.done h.done.out ≡ j) × Comes st (marks_of ds) (suc j) true).
+    record {
+      each_may = w.0;
+      marks = q.4.marks;
+      inside = λ i. (q.0.done, q.0.is_last, q.4.round ∙ ap suc (sym q.3));
+      outside = λ o. absurd (let z : true ≡ false = sym q.4.inside ∙ o in cc);
+    })
+    (λ (q : Unseen y ds × Comes st (marks_of ds) 1 false).
+    record {
+      each_may = w.0;
+      marks = q.1.marks;
+      inside = λ i. absurd (let z : true ≡ false = sym i ∙ q.1.inside in cc);
+      outside = λ o. q.1.round;
+    })
+    w.1

@@ -89,7 +89,7 @@ pub record Knows (y : System) (s : Spot) (d : Step) (now : ℕ) (n : NodeSeen) :
 pub record KeepsRegisters (v : ℕ) (p : Plan) (stay : ℕ) (ds : List Step) (n : NodeSeen) : Type 0 where
   pub outs : (a : ℕ) → a < length p.mode.tasks → node_of p a ≡ v → slice_index_or n.outs a None ≡ value_of (out_register p stay a ds)
   pub ins : (b i : ℕ) → i < length p.mode.messages → Contains (message_at p.mode i).to b → node_of p b ≡ v →
-    slice_index_or (slice_index_or n.ins b []) i None ≡ values_of (in_register p stay b i ds)
+      slice_index_or (slice_index_or n.ins b []) i None ≡ values_of (in_register p stay b i ds)
   pub run : n.run ≡ running v stay ds
 
 -- node v after these steps
