@@ -17,6 +17,11 @@ use crate::tables::NodeTable;
 pub fn read_image(alloc: Global, bytes: &[u8]) -> Result<NodeTable, ImageFault>
     ensures ok { IfOk result (λ t. reads.read bytes.now ≡ Ok t) }
     ensures err { IfErr result (λ fault. fault ≢ Memory → reads.read bytes.now ≡ Err fault) }
+
+    // It is the one table with this image, and an image gives its table where memory is left.
+    ensures image { IfOk result (λ t. Image t bytes.now) }
+    ensures only { (t : NodeTable) → Image t bytes.now
+        → (result ≡ Ok t) ⊎ (result ≡ Err Memory) }
 {
     let mut reader = Reader::new(bytes);
     let table = NodeTable::read(alloc, &mut reader)?;
