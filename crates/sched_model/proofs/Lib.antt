@@ -21,6 +21,12 @@ pub mod Backward
 pub mod FirstInstances
 pub mod OneTurn
 pub mod SmallModes
+pub mod Sizes
+pub mod KeptSets
+pub mod KeptModes
+pub mod Ranks
+pub mod PlainPlaces
+pub mod KeptRules
 pub mod Stored
 pub mod OwnTrees
 pub mod Leasts

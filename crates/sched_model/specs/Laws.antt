@@ -1,9 +1,9 @@
 -- Laws of schedules, of the constraint problem and of the search
-use Rattle.std.specs.Prelude.{◌≡◌, ℕ, ◌<◌, ◌≤◌, ◌↔◌, List, length, ℤ, pos, ◌⊎◌}
+use Rattle.std.specs.Prelude.{◌≡◌, ℕ, ◌<◌, ◌≤◌, ◌↔◌, List, length, ℤ, pos, ◌⊎◌, Contains}
 use Rattle.tick_num.specs.Differences.{MeetsAll, LeastValues}
 use Rattle.sched_model.specs.declared.schedule.Schedule.{Schedule}
 use Rattle.sched_model.specs.declared.trees.TreeNode.{TreeNode}
-use Rattle.sched_model.specs.PlainMode.{PlainMode}
+use Rattle.sched_model.specs.PlainMode.{PlainMode, plain_mode, plain_at}
 use Rattle.sched_model.specs.Rounds.{Carries}
 use Rattle.sched_model.specs.RightSchedule.{HasShape, RoundsFit, OffsetFits, MessageFits, RunsApart, AllServed, Timely, IsSchedule}
 use Rattle.sched_model.specs.OneHyperperiod.{ClassesApart, ServedOnce, EntriesFit}
@@ -14,7 +14,15 @@ use Rattle.sched_model.specs.PrintedSchedule.{FirstList, schedule_of, Printed}
 use Rattle.sched_model.specs.ScheduleList.{HasList}
 use Rattle.sched_model.specs.TimeLimits.{HasTimes}
 use Rattle.sched_model.specs.RefutationTree.{Node, IsTree, IsOwnTree, ValidTree, OwnTree}
+use Rattle.app_graph.specs.declared.mode_set.ModeSet.{ModeSet}
+use Rattle.app_graph.specs.declared.mode_set.Mode.{Mode}
+use Rattle.app_graph.specs.Validation.{KeepsRules}
 use Rattle.sched_model.specs.ValidMode.{IsValid}
+
+-- each mode of a set that keeps the rules of a mode file is valid
+abbrev pub KeptModesAreValid : Type 0
+KeptModesAreValid = (set : ModeSet) → KeepsRules set →
+    ((mode : Mode) → Contains set.modes mode → IsValid (plain_mode set mode)) × ((i : ℕ) → i < length set.modes → IsValid (plain_at set i))
 
 -- a right schedule of r rounds exists exactly where a full list of choices is open
 abbrev pub ListsAreSchedules : Type 0

@@ -12,5 +12,6 @@ pub mod ScheduleList
 pub mod TimeLimits
 pub mod RefutationTree
 pub mod ValidMode
+pub mod ModeLimits
 pub mod Laws
 pub mod Examples

@@ -6,7 +6,8 @@ use Rattle.app_graph.specs.declared.mode_set.ModeSet.{ModeSet}
 use Rattle.app_graph.specs.declared.mode_set.Mode.{Mode}
 use Rattle.app_graph.specs.declared.mode_set.App.{App}
 use Rattle.app_graph.specs.declared.mode_set.Task.{Task}
-use Rattle.sched_model.specs.Numbers.{below, lcm}
+use Rattle.app_graph.specs.Hyperperiod.{lcm}
+use Rattle.sched_model.specs.Numbers.{below}
 
 -- a task: its number over the file, the places of its application and node, how long a run takes, and its application's period and deadline
 pub record PlainTask : Type 0 where
