@@ -32,7 +32,7 @@ use Rattle.sched_model.proofs.Serving.{Repeats}
 use Rattle.sched_model.proofs.Given.{IsServed, next_after, within_turn, server_rises}
 use Rattle.sched_model.proofs.Pairs.{Fits, place_of, fits_order, among_places}
 use Rattle.sched_model.proofs.Graph.{edge_message, message_edge, never_late}
-use Rattle.sched_model.proofs.Hyper.{hyper_some}
+use Rattle.sched_model.proofs.Hyperperiods.{hyper_some}
 use Rattle.sched_model.proofs.Spans.{in_span}
 
 -- a choice that a schedule gives for a decision

@@ -66,7 +66,7 @@ among_names : (name : List ℕ) (names : List (List ℕ)) (other : List ℕ) →
 among_names name names other (k, l, e) same = passes (bytes_eq other) names name k l ((bytes_eq-Decides other (get_or names k name)).1 (same ∙ sym e))
 
 -- ---- the applications' periods
-periods_are : (nodes : List (List ℕ)) (t m : ℕ) (apps : List RawApp) → map (λ (a : App). unsigned_abs a.period) (apps_from nodes t m apps) ≡ map (λ (a : RawApp). unsigned_abs a.period) apps
+pub periods_are : (nodes : List (List ℕ)) (t m : ℕ) (apps : List RawApp) → map (λ (a : App). unsigned_abs a.period) (apps_from nodes t m apps) ≡ map (λ (a : RawApp). unsigned_abs a.period) apps
 periods_are nodes t m [] = refl
 periods_are nodes t m (a ∷ apps) = ap (λ (l : List ℕ). unsigned_abs a.period ∷ l) (periods_are nodes (t + length a.tasks) (m + length a.messages) apps)
 
@@ -140,13 +140,13 @@ module _ (raw : RawSet) (set : ModeSet) (nodes : List (List ℕ)) (mode : RawMod
     pub within : j < length A.messages
     pub is : IsMessage ts A k t (n + i) (get_or A.messages j no_raw_message) (message_at m i)
 
-  comes : (i : ℕ) → i < length m.messages → Comes i
+  pub comes : (i : ℕ) → i < length m.messages → Comes i
   comes i l = let f = message_found nodes ts t n mode.apps i l in record { k = f.0; A = f.1; j = f.2; at = f.3; within = f.4; is = f.5 }
 
-  app_kept : (k : ℕ) (A : RawApp) → At mode.apps k A → KeptApp A
+  pub app_kept : (k : ℕ) (A : RawApp) → At mode.apps k A → KeptApp A
   app_kept k A at = at_all KeptApp mode.apps kept.apps k A at
 
-  message_kept : (A : RawApp) (j : ℕ) → KeptApp A → j < length A.messages → let u = get_or A.messages j no_raw_message in KeptEnds 4 A u.from × KeptEnds 16 A u.to
+  pub message_kept : (A : RawApp) (j : ℕ) → KeptApp A → j < length A.messages → let u = get_or A.messages j no_raw_message in KeptEnds 4 A u.from × KeptEnds 16 A u.to
   message_kept A j ok l = All-from_recursion (λ u. KeptEnds 4 A u.from × KeptEnds 16 A u.to) A.messages ok.messages j no_raw_message l
 
   -- the first one of a list of names
@@ -222,7 +222,7 @@ module _ (raw : RawSet) (set : ModeSet) (nodes : List (List ℕ)) (mode : RawMod
       ((cycle_law x.A).1 (get_or x.A.tasks x.i no_raw_task, (Contains-get_or x.A.tasks x.i no_raw_task x.i_low, (c, back))))
 
   -- ---- the mode is valid
-  hyper_is : hyper m ≡ hyper_of mode
+  pub hyper_is : hyper m ≡ hyper_of mode
   unfolding hyper hyperperiod
   hyper_is = ap (λ (ps : List ℕ). fold lcm 1 ps) (periods_are nodes t n mode.apps)
 

@@ -1,5 +1,5 @@
 -- What a mode file that breaks no rule keeps, application by application
-use Rattle.std.proofs.Common.{◌≡◌, ℕ, ◌+◌, ◌/◌, ◌<◌, ◌≤◌, true, false, not, List, [], ◌∷◌, ◌++◌, length, None, ◌∙◌, ap, arith, ℤ, pos, negsuc, ◌≤ℤ◌, unsigned_abs, int_le, nat_le, length-append, append-nil}
+use Rattle.std.proofs.Common.{◌≡◌, ℕ, ◌+◌, ◌/◌, ◌<◌, ◌≤◌, true, false, not, List, [], ◌∷◌, ◌++◌, length, None, ◌∙◌, ap, arith, ℤ, pos, negsuc, ◌≤ℤ◌, ◌<ℤ◌, unsigned_abs, int_le, nat_le, length-append, append-nil}
 use Rattle.std.specs.List.{AllByRecursion, flat_map}
 use Rattle.std.proofs.lemmas.Int.{ints}
 use Rattle.std.proofs.lemmas.Bool.{and_parts, ltb-true, leb-true, not-true}
@@ -16,7 +16,7 @@ use Rattle.app_graph.specs.declared.raw.RawSet.{RawSet}
 use Rattle.app_graph.specs.Rules.{Rule, unless, each, each_after}
 use Rattle.app_graph.specs.Spelling.{is_name}
 use Rattle.app_graph.specs.ValueRules.{within, has_some, at_most, among, is_task, listed, ends, task_rules, task_values, message_rules, message_values, has_cycle, own_rules, graph_rules, app_rules, app_values, hyper_of, runs_in, pairs_in, size_values, mode_rules, mode_values, round_rules, set_rules, value_rules}
-use Rattle.app_graph.proofs.Kept.{kept_parts, unless_kept, each_kept, all_kept, app_tasks, app_messages}
+use Rattle.app_graph.proofs.Kept.{kept_parts, unless_kept, each_kept, all_kept, app_tasks, app_messages, app_period}
 
 kept_each : {F A : Type 0} (rule : A → Rule F) (xs : List A) → each rule xs ≡ None → AllByRecursion (λ x. rule x ≡ None) xs
 kept_each rule [] e = tt
@@ -52,6 +52,7 @@ pub record KeptEnds (most : ℕ) (app : RawApp) (names : List (List ℕ)) : Type
 
 pub record KeptApp (app : RawApp) : Type 0 where
   pub period : (1 ≤ unsigned_abs app.period) × (unsigned_abs app.period ≤ 1000000000)
+  pub positive : pos 0 <ℤ app.period
   pub deadline : 1 ≤ unsigned_abs app.deadline
   pub wcets : AllByRecursion (λ t. (1 ≤ unsigned_abs t.wcet) × (unsigned_abs t.wcet ≤ unsigned_abs app.period)) app.tasks
   pub messages : AllByRecursion (λ m. KeptEnds 4 app m.from × KeptEnds 16 app m.to) app.messages
@@ -97,6 +98,7 @@ kept_app set earlier app e =
     let graph = all_kept (graph_rules app) k.1.1.1.0 in
     record {
       period = abs_within app.period 1000000000 (within_parts (pos 1) (pos 1000000000) app.period (unless_kept (within (pos 1) (pos 1000000000) app.period) (OutOfRange KPeriod) own.1.0));
+      positive = app_period set earlier app e;
       deadline = (abs_within app.deadline 1000000000000 (within_parts (pos 1) (pos 1000000000000) app.deadline (unless_kept (within (pos 1) (pos 1000000000000) app.deadline) (OutOfRange KDeadline) own.1.1.0))).0;
       wcets = each_kept (task_values set app) (λ t. (1 ≤ unsigned_abs t.wcet) × (unsigned_abs t.wcet ≤ unsigned_abs app.period)) (kept_wcet set app) (flat_map (λ a. a.tasks) earlier) app.tasks k.1.0;
       messages = each_kept (message_values app) (λ m. KeptEnds 4 app m.from × KeptEnds 16 app m.to) (kept_message app) (flat_map (λ a. a.messages) earlier) app.messages k.1.1.0;

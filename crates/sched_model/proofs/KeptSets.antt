@@ -15,7 +15,7 @@ use Rattle.sched_model.proofs.KeptRules.{KeptMode, kept_set}
 use Rattle.sched_model.proofs.KeptModes.{mode_valid}
 
 -- a mode of the set comes from one of the file
-mode_found : (set : RawSet) (nodes : List (List ℕ)) (t n : ℕ) (raws : List RawMode) → AllByRecursion (KeptMode set) raws → (mode : Mode) → Contains (modes_from nodes t n raws) mode →
+pub mode_found : (set : RawSet) (nodes : List (List ℕ)) (t n : ℕ) (raws : List RawMode) → AllByRecursion (KeptMode set) raws → (mode : Mode) → Contains (modes_from nodes t n raws) mode →
     (raw : RawMode) × KeptMode set raw × (k l : ℕ) × (record { name = raw.name; apps = apps_from nodes k l raw.apps } ≡ mode)
 mode_found set nodes t n [] kept mode (k, l, e) = absurd (omega (arith, l))
 mode_found set nodes t n (raw ∷ raws) kept mode (zero, l, e) = (raw, kept.0, t, n, e)

@@ -4,7 +4,7 @@ pub mod Tests
 pub mod Classes
 pub mod Serving
 pub mod Given
-pub mod Hyper
+pub mod Hyperperiods
 pub mod Base
 pub mod Places
 pub mod Counts
@@ -21,6 +21,8 @@ pub mod Backward
 pub mod FirstInstances
 pub mod OneTurn
 pub mod SmallModes
+pub mod ModeNumbers
+pub mod LimitedModes
 pub mod Sizes
 pub mod KeptSets
 pub mod KeptModes

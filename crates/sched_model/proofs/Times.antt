@@ -9,7 +9,7 @@ use Rattle.sched_model.specs.Rounds.{round_start, task_start, opens, closes}
 use Rattle.sched_model.specs.RightSchedule.{IsSchedule}
 use Rattle.sched_model.specs.TimeLimits.{IsTime, HasTimes}
 use Rattle.sched_model.specs.ValidMode.{IsValid}
-use Rattle.sched_model.proofs.Hyper.{period_divides, hyper_some, some_factor}
+use Rattle.sched_model.proofs.Hyperperiods.{period_divides, hyper_some, some_factor}
 use Rattle.sched_model.proofs.Graph.{message_edge}
 use Rattle.sched_model.proofs.Backward.{on_time, starts_from_zero}
 use Rattle.sched_model.proofs.OneTurn.{in_hyper}

@@ -17,12 +17,18 @@ use Rattle.sched_model.specs.RefutationTree.{Node, IsTree, IsOwnTree, ValidTree,
 use Rattle.app_graph.specs.declared.mode_set.ModeSet.{ModeSet}
 use Rattle.app_graph.specs.declared.mode_set.Mode.{Mode}
 use Rattle.app_graph.specs.Validation.{KeepsRules}
+use Rattle.sched_model.specs.ModeLimits.{IsLimited}
 use Rattle.sched_model.specs.ValidMode.{IsValid}
 
 -- each mode of a set that keeps the rules of a mode file is valid
 abbrev pub KeptModesAreValid : Type 0
 KeptModesAreValid = (set : ModeSet) → KeepsRules set →
     ((mode : Mode) → Contains set.modes mode → IsValid (plain_mode set mode)) × ((i : ℕ) → i < length set.modes → IsValid (plain_at set i))
+
+-- and it is within the limits
+abbrev pub KeptModesAreLimited : Type 0
+KeptModesAreLimited = (set : ModeSet) → KeepsRules set →
+    ((mode : Mode) → Contains set.modes mode → IsLimited (plain_mode set mode)) × ((i : ℕ) → i < length set.modes → IsLimited (plain_at set i))
 
 -- a right schedule of r rounds exists exactly where a full list of choices is open
 abbrev pub ListsAreSchedules : Type 0

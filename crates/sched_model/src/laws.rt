@@ -1,10 +1,15 @@
 //! Laws of schedules and of their search that other crates stand on.
 
-ghost use Rattle.sched_model.specs.Laws.{CostsAreOne, FirstListIsOne, KeptModesAreValid, LeadingIsFullOpen, LeastValuesExist, ListsAreSchedules, OneHyperperiodDecides, OwnTreeOrLeads, OwnTreesAreValid, OwnTreesCountVisits, PrintedIsRight, SchedulesHaveOneList, SchedulesHaveTimes, SolutionsAreSchedules, TreesRefute};
+ghost use Rattle.sched_model.specs.Laws.{CostsAreOne, FirstListIsOne, KeptModesAreLimited, KeptModesAreValid, LeadingIsFullOpen, LeastValuesExist, ListsAreSchedules, OneHyperperiodDecides, OwnTreeOrLeads, OwnTreesAreValid, OwnTreesCountVisits, PrintedIsRight, SchedulesHaveOneList, SchedulesHaveTimes, SolutionsAreSchedules, TreesRefute};
 
 /// Each mode of a set that validation gives is valid.
 pub fn kept_modes_are_valid()
     ensures { KeptModesAreValid }
+{}
+
+/// Each mode of a set that validation gives is within the limits on sizes and times.
+pub fn kept_modes_are_limited()
+    ensures { KeptModesAreLimited }
 {}
 
 /// A valid mode has a right schedule of some rounds exactly where a full list of choices is open.
