@@ -3,19 +3,22 @@ use Rattle.std.proofs.Common.{◌≡◌, ℕ, suc, ◌+◌, ◌*◌, ◌<◌, �
 use Rattle.std.specs.List.{flat_map, AllByRecursion}
 use Rattle.std.proofs.lemmas.Bool.{and_parts}
 use Rattle.std.proofs.lemmas.List.Elements.{All-from_recursion}
+use Rattle.std.proofs.lemmas.List.Concat.{length-flat_map}
+use Rattle.std.proofs.lemmas.List.Sums.{sum_by_push, sum_by-cons, sum_by-le}
 use Rattle.std.proofs.lemmas.Int.{ints}
 use borrow.Author.Differences.{le-true}
 use borrow.Author.Tests.{ltb-true, leb-true}
 use Rattle.app_graph.specs.declared.faults.GraphFault.{GraphFault}
 use Rattle.app_graph.specs.declared.faults.GraphFault.TheVariants.{OutOfRange, TooMany}
-use Rattle.app_graph.specs.declared.keys.Key.TheVariants.{KTask, KMessage, KPeriod, KRound, KMode}
+use Rattle.app_graph.specs.declared.keys.Key.TheVariants.{KTask, KMessage, KPeriod, KRound, KMode, KNodes, KSlots}
 use Rattle.app_graph.specs.declared.raw.RawTask.{RawTask}
 use Rattle.app_graph.specs.declared.raw.RawMessage.{RawMessage}
 use Rattle.app_graph.specs.declared.raw.RawApp.{RawApp}
 use Rattle.app_graph.specs.declared.raw.RawMode.{RawMode}
 use Rattle.app_graph.specs.declared.raw.RawSet.{RawSet}
 use Rattle.app_graph.specs.Rules.{Rule, unless, first_of, each_after}
-use Rattle.app_graph.specs.ValueRules.{within, task_values, task_rules, message_values, message_rules, own_rules, app_values, app_rules, mode_values, mode_rules, round_values, round_rules, value_rules, set_rules}
+use Rattle.app_graph.specs.ValueRules.{within, task_values, task_rules, message_values, message_rules, own_rules, app_values, app_rules, mode_values, mode_rules, round_values, round_rules, node_rules, value_rules, set_rules}
+use Rattle.app_graph.specs.Numbering.{task_count, message_count}
 
 -- of a list of rules that are kept the first one is, and the others are
 pub kept_parts : {Fault : Type 0} (r : Rule Fault) (rs : List (Rule Fault)) → first_of (r ∷ rs) ≡ None → (r ≡ None) × (first_of rs ≡ None)
@@ -88,3 +91,59 @@ pub round_some : (set : RawSet) → round_values set ≡ None → pos 0 <ℤ set
 round_some set e =
     let low = within_low (pos 1) (pos 1000000000) set.round (unless_kept (within (pos 1) (pos 1000000000) set.round) (OutOfRange KRound) (all_kept (round_rules set) e).1.0) in
     omega (arith, ints, low)
+
+-- ---- how much there is in a mode set that keeps the rules
+apps_tasks : (set : RawSet) (before apps : List RawApp) → each_after (app_values set) before apps ≡ None
+    → sum_by (λ a. length a.tasks) before ≤ 128 → sum_by (λ a. length a.tasks) before + sum_by (λ a. length a.tasks) apps ≤ 128
+apps_tasks set before [] e l = omega arith
+apps_tasks set before (app ∷ apps) e l =
+    let k = kept_parts (app_values set before app) (each_after (app_values set) (before ++ app ∷ []) apps ∷ []) e in
+    let size = length-flat_map (λ (a : RawApp). a.tasks) before in
+    let here = app_tasks set before app k.0 (omega (arith, size, l)) in
+    let push = sum_by_push (λ (a : RawApp). length a.tasks) before app in
+    let rest = apps_tasks set (before ++ app ∷ []) apps (kept_parts (each_after (app_values set) (before ++ app ∷ []) apps) [] k.1).0 (omega (arith, here, size, push)) in
+    omega (arith, rest, push, sum_by-cons (λ (a : RawApp). length a.tasks) app apps)
+
+apps_messages : (set : RawSet) (before apps : List RawApp) → each_after (app_values set) before apps ≡ None
+    → sum_by (λ a. length a.messages) before ≤ 64 → sum_by (λ a. length a.messages) before + sum_by (λ a. length a.messages) apps ≤ 64
+apps_messages set before [] e l = omega arith
+apps_messages set before (app ∷ apps) e l =
+    let k = kept_parts (app_values set before app) (each_after (app_values set) (before ++ app ∷ []) apps ∷ []) e in
+    let size = length-flat_map (λ (a : RawApp). a.messages) before in
+    let here = app_messages set before app k.0 (omega (arith, size, l)) in
+    let push = sum_by_push (λ (a : RawApp). length a.messages) before app in
+    let rest = apps_messages set (before ++ app ∷ []) apps (kept_parts (each_after (app_values set) (before ++ app ∷ []) apps) [] k.1).0 (omega (arith, here, size, push)) in
+    omega (arith, rest, push, sum_by-cons (λ (a : RawApp). length a.messages) app apps)
+
+mode_tasks : (set : RawSet) (earlier : List RawMode) (mode : RawMode) → mode_values set earlier mode ≡ None → task_count mode ≤ 128
+mode_tasks set earlier mode e = omega (arith, apps_tasks set [] mode.apps (all_kept (mode_rules set earlier mode) e).1.1.0 (omega arith))
+
+mode_messages : (set : RawSet) (earlier : List RawMode) (mode : RawMode) → mode_values set earlier mode ≡ None → message_count mode ≤ 64
+mode_messages set earlier mode e = omega (arith, apps_messages set [] mode.apps (all_kept (mode_rules set earlier mode) e).1.1.0 (omega arith))
+
+set_modes : (set : RawSet) → value_rules set ≡ None → length set.modes ≤ 8
+set_modes set e = leb-true (length set.modes) 8 (unless_kept (nat_le (length set.modes) 8) (TooMany KMode) (all_kept (set_rules set) e).1.1.1.0)
+
+pub set_tasks : (set : RawSet) → value_rules set ≡ None → sum_by task_count set.modes ≤ 1024
+set_tasks set e =
+    let each = All-from_recursion (λ (m : RawMode). task_count m ≤ 128) set.modes
+    (each_kept (mode_values set) (λ m. task_count m ≤ 128) (mode_tasks set) [] set.modes (all_kept (set_rules set) e).1.1.1.1.0) in
+    omega (arith, sum_by-le task_count 128 set.modes each, set_modes set e)
+
+pub set_messages : (set : RawSet) → value_rules set ≡ None → sum_by message_count set.modes ≤ 512
+set_messages set e =
+    let each = All-from_recursion (λ (m : RawMode). message_count m ≤ 64) set.modes
+    (each_kept (mode_values set) (λ m. message_count m ≤ 64) (mode_messages set) [] set.modes (all_kept (set_rules set) e).1.1.1.1.0) in
+    omega (arith, sum_by-le message_count 64 set.modes each, set_modes set e)
+
+pub set_nodes : (set : RawSet) → value_rules set ≡ None → length set.nodes ≤ 64
+set_nodes set e =
+    leb-true (length set.nodes) 64 (unless_kept (nat_le (length set.nodes) 64) (TooMany KNodes) (all_kept (node_rules set) (all_kept (set_rules set) e).1.0).1.0)
+
+pub set_slots : (set : RawSet) → value_rules set ≡ None → (pos 1 ≤ℤ set.slots) × (set.slots ≤ℤ pos 32)
+set_slots set e =
+    let w = unless_kept (within (pos 1) (pos 32) set.slots) (OutOfRange KSlots) (all_kept (round_rules set) (all_kept (set_rules set) e).0).0 in
+    let p = and_parts (int_le (pos 1) set.slots) (int_le set.slots (pos 32)) w in
+    let low = le-true (pos 1) set.slots p.0 in
+    let high = le-true set.slots (pos 32) p.1 in
+    (omega (arith, ints, low), omega (arith, ints, high))

@@ -27,10 +27,10 @@ begins app (suc n) t = list_any (reaches_by app.tasks (begins app n) t) app.mess
 module _ (tasks : List RawTask) (p : RawTask → Bool) (marked : ℕ) (is : (a : RawTask → Bool) → bit_and (mask_of a tasks) marked ≡ mask_of (λ v. a v && p v) tasks) where
   one_link : (q : RawTask → Bool) (m : RawMessage)
       → cond (eqb (bit_and (link_of tasks m).to marked) 0) (mask_of q tasks) (bit_or (mask_of q tasks) (link_of tasks m).from)
-        ≡ mask_of (λ t. q t || reaches_by tasks p t m) tasks
+      ≡ mask_of (λ t. q t || reaches_by tasks p t m) tasks
   one_link q m =
       let test : eqb (bit_and (link_of tasks m).to marked) 0 ≡ not (list_any (λ v. among v.name m.to && p v) tasks)
-          = ap (λ n. eqb n 0) (is (λ v. among v.name m.to)) ∙ mask_of-zero (λ v. among v.name m.to && p v) tasks in
+      = ap (λ n. eqb n 0) (is (λ v. among v.name m.to)) ∙ mask_of-zero (λ v. among v.name m.to && p v) tasks in
       ap (λ b. cond b (mask_of q tasks) (bit_or (mask_of q tasks) (link_of tasks m).from)) test ∙ by_hit (list_any (λ v. among v.name m.to && p v) tasks)
     where
       by_hit : (h : Bool) → cond (not h) (mask_of q tasks) (bit_or (mask_of q tasks) (mask_of (λ t. among t.name m.from) tasks)) ≡ mask_of (λ t. q t || (among t.name m.from && h)) tasks
@@ -49,7 +49,7 @@ module _ (tasks : List RawTask) (p : RawTask → Bool) (marked : ℕ) (is : (a :
 
   all_links : (q : RawTask → Bool) (ms : List RawMessage)
       → fold (λ next link. cond (eqb (bit_and link.to marked) 0) next (bit_or next link.from)) (mask_of q tasks) (map (link_of tasks) ms)
-        ≡ mask_of (λ t. q t || list_any (reaches_by tasks p t) ms) tasks
+      ≡ mask_of (λ t. q t || list_any (reaches_by tasks p t) ms) tasks
   all_links q [] = mask_same q (λ t. q t || false) tasks (λ t. sym (or_false (q t)))
     where
       or_false : (b : Bool) → (b || false) ≡ b
@@ -59,7 +59,7 @@ module _ (tasks : List RawTask) (p : RawTask → Bool) (marked : ℕ) (is : (a :
       ap (λ n. fold (λ next (link : Link). cond (eqb (bit_and link.to marked) 0) next (bit_or next link.from)) n (map (link_of tasks) ms)) (one_link q m)
       ∙ all_links (λ t. q t || reaches_by tasks p t m) ms
       ∙ mask_same (λ t. (q t || reaches_by tasks p t m) || list_any (reaches_by tasks p t) ms) (λ t. q t || (reaches_by tasks p t m || list_any (reaches_by tasks p t) ms)) tasks
-        (λ t. or_assoc (q t) (reaches_by tasks p t m) (list_any (reaches_by tasks p t) ms))
+      (λ t. or_assoc (q t) (reaches_by tasks p t m) (list_any (reaches_by tasks p t) ms))
     where
       or_assoc : (a b c : Bool) → ((a || b) || c) ≡ (a || (b || c))
       or_assoc true b c = refl
@@ -110,7 +110,7 @@ module _ (app : RawApp) where
       let msg = get_or app.messages m.0 (record { name = []; from = []; to = [] }) in
       let w = and_parts (among t.name msg.from) (among v.name msg.to) m.2 in
       list_any_at (reaches_by app.tasks (begins app k) t) app.messages m.0 _ m.1
-        (and_from (among t.name msg.from) _ w.0 (found (λ u. among u.name msg.to && begins app k u) app.tasks v c (and_from (among v.name msg.to) (begins app k v) w.1 b)))
+      (and_from (among t.name msg.from) _ w.0 (found (λ u. among u.name msg.to && begins app k u) app.tasks v c (and_from (among v.name msg.to) (begins app k v) w.1 b)))
 
   walk_more : (n : ℕ) (a c b : RawTask) → Walk app n a c → Contains app.tasks b → goes app c b ≡ true → Walk app (suc n) a b
   walk_more zero a c b w i g = (b, i, subst (λ (x : RawTask). goes app x b ≡ true) (sym w) g, refl)
@@ -150,6 +150,7 @@ module _ (app : RawApp) where
       inside : (b : ℕ) (r : Trace d k b) (i : ℕ) → i ≤ suc k → before a r.f i < length app.tasks
       inside b r zero h = l
       inside b r (suc i) h = r.within i (omega arith)
+
       steps : (b : ℕ) → goes app (get_or app.tasks a d) (get_or app.tasks b d) ≡ true → (r : Trace d k b) (i : ℕ) → i < suc k
           → goes app (get_or app.tasks (before a r.f i) d) (get_or app.tasks (before a r.f (suc i)) d) ≡ true
       steps b g r zero h = subst (λ (j : ℕ). goes app (get_or app.tasks a d) (get_or app.tasks j d) ≡ true) (sym r.start) g
@@ -163,9 +164,9 @@ module _ (app : RawApp) where
       (subst (λ (x : ℕ). goes app (get_or app.tasks (r.f i) d) (get_or app.tasks (r.f x) d) ≡ true) (let s : suc i ≡ i + 1 = omega arith in s) (r.along i (omega arith)))
   stretch d k a r (suc n) i (suc j) h l = or_right (goes app (get_or app.tasks (r.f i) d) (get_or app.tasks (r.f (i + suc (suc j))) d)) _
       (list_any_at (λ v. goes app (get_or app.tasks (r.f i) d) v && goes_in n app v (get_or app.tasks (r.f (i + suc (suc j))) d)) app.tasks (r.f (suc i)) d (r.within (suc i) (omega arith))
-        (and_from (goes app (get_or app.tasks (r.f i) d) (get_or app.tasks (r.f (suc i)) d)) _ (r.along i (omega arith))
-          (subst (λ (x : ℕ). goes_in n app (get_or app.tasks (r.f (suc i)) d) (get_or app.tasks (r.f x) d) ≡ true) (let s : suc i + suc j ≡ i + suc (suc j) = omega arith in s)
-            (stretch d k a r n (suc i) j (omega arith) (omega arith)))))
+      (and_from (goes app (get_or app.tasks (r.f i) d) (get_or app.tasks (r.f (suc i)) d)) _ (r.along i (omega arith))
+      (subst (λ (x : ℕ). goes_in n app (get_or app.tasks (r.f (suc i)) d) (get_or app.tasks (r.f x) d) ≡ true) (let s : suc i + suc j ≡ i + suc (suc j) = omega arith in s)
+      (stretch d k a r n (suc i) j (omega arith) (omega arith)))))
 
   -- a walk with more edges than there are tasks passes a task twice
   long_cycle : (t : RawTask) → Contains app.tasks t → begins app (suc (length app.tasks)) t ≡ true → has_cycle app ≡ true
@@ -178,18 +179,18 @@ module _ (app : RawApp) where
       let x = get_or app.tasks (r.f w.0) t in
       let s = stretch t (suc n) c.0 r n w.0 j (omega (arith, w.2, w.3)) (omega (arith, w.2, w.3)) in
       list_any_at (λ u. goes_in n app u u) app.tasks (r.f w.0) t (r.within w.0 (omega (arith, w.2, w.3)))
-        (subst (λ (k : ℕ). goes_in n app x (get_or app.tasks k t) ≡ true) (ap r.f {x = w.0 + suc j} end ∙ sym w.4) s)
+      (subst (λ (k : ℕ). goes_in n app x (get_or app.tasks k t) ≡ true) (ap r.f {x = w.0 + suc j} end ∙ sym w.4) s)
 
   short_walk : (n : ℕ) (t u : RawTask) → Contains app.tasks u → goes_in n app t u ≡ true → (k : ℕ) × Walk app (suc k) t u
   short_walk zero t u c e = absurd (cc)
   short_walk (suc n) t u c e = ⊎_elim
       (λ (h : goes app t u ≡ true). (0, (u, c, h, refl)))
       (λ (h : list_any (λ v. goes app t v && goes_in n app v u) app.tasks ≡ true).
-        let v = passed (λ v. goes app t v && goes_in n app v u) app.tasks t h in
-        let x = get_or app.tasks v.0 t in
-        let z = and_parts (goes app t x) (goes_in n app x u) v.2 in
-        let r = short_walk n x u c z.1 in
-        (suc r.0, (x, Contains-get_or app.tasks v.0 t v.1, z.0, r.1)))
+      let v = passed (λ v. goes app t v && goes_in n app v u) app.tasks t h in
+      let x = get_or app.tasks v.0 t in
+      let z = and_parts (goes app t x) (goes_in n app x u) v.2 in
+      let r = short_walk n x u c z.1 in
+      (suc r.0, (x, Contains-get_or app.tasks v.0 t v.1, z.0, r.1)))
       (or_cases (goes app t u) _ e)
 
   cycle_found : has_cycle app ≡ true → (d : RawTask) → (t : RawTask) × OnCycle app t
@@ -201,9 +202,9 @@ module _ (app : RawApp) where
 
 pub cycle_law : CycleLaw
 cycle_law app = (
-    λ e. cycle_found app e (record { name = []; node = []; wcet = pos 0; body = [] }),
-    λ o. long_cycle app o.0 o.1.0 (cycle_begins app (suc (length app.tasks)) o.0 o.1),
-  )
+  λ e. cycle_found app e (record { name = []; node = []; wcet = pos 0; body = [] }),
+  λ o. long_cycle app o.0 o.1.0 (cycle_begins app (suc (length app.tasks)) o.0 o.1),
+)
 
 same_bool : (a b : Bool) → (a ≡ true → b ≡ true) → (b ≡ true → a ≡ true) → a ≡ b
 same_bool true b f g = sym (f refl)
@@ -214,7 +215,7 @@ same_bool false false f g = refl
 pub cycle_by_levels : (app : RawApp) → list_any (begins app (suc (length app.tasks))) app.tasks ≡ has_cycle app
 cycle_by_levels app = same_bool _ _
     (λ e. let v = passed (begins app (suc (length app.tasks))) app.tasks (record { name = []; node = []; wcet = pos 0; body = [] }) e in
-      long_cycle app _ (Contains-get_or app.tasks v.0 _ v.1) v.2)
+    long_cycle app _ (Contains-get_or app.tasks v.0 _ v.1) v.2)
     (λ e. let o = (cycle_law app).0 e in found (begins app (suc (length app.tasks))) app.tasks o.0 o.1.0 (cycle_begins app (suc (length app.tasks)) o.0 o.1))
 
 -- ---- the rounds of the test

@@ -15,7 +15,6 @@ at p [] j = false
 at p (x ∷ xs) zero = p x
 at p (x ∷ xs) (suc j) = at p xs j
 
-
 pub bit_at-mask_of : {A : Type 0} (p : A → Bool) (xs : List A) (j : ℕ) → bit_at (mask_of p xs) j ≡ cond (at p xs j) 1 0
 bit_at-mask_of p [] j = bit_at-zero j
 bit_at-mask_of p (x ∷ xs) zero = bit_at_lowest (mask_of p (x ∷ xs)) ∙ low (p x) (mask_of p xs)
@@ -53,9 +52,9 @@ pub mask_of-yes : {A : Type 0} (p : A → Bool) (xs : List A) (y : A) → length
     → bit_or (mask_of p xs) (1 * 2 ^ length xs % 2 ^ 128) ≡ mask_of p (xs ++ y ∷ [])
 mask_of-yes {A} p xs y l e = same_from_bits _ _ (λ j. ⊎_elim
     (λ (same : j ≡ length xs). subst (λ (k : ℕ). bit_at (bit_or (mask_of p xs) (1 * 2 ^ length xs % 2 ^ 128)) k ≡ bit_at (mask_of p (xs ++ y ∷ [])) k) (sym same)
-      (bit_at_set_same w128 (mask_of p xs) (length xs) l ∙ sym (bit_at-mask_of p (xs ++ y ∷ []) (length xs) ∙ ap (λ b. cond b 1 0) (at-end p xs y ∙ e))))
+    (bit_at_set_same w128 (mask_of p xs) (length xs) l ∙ sym (bit_at-mask_of p (xs ++ y ∷ []) (length xs) ∙ ap (λ b. cond b 1 0) (at-end p xs y ∙ e))))
     (λ (other : j ≡ length xs → ⊥). bit_at_set_other w128 (mask_of p xs) (length xs) l j other
-      ∙ bit_at-mask_of p xs j ∙ ap (λ b. cond b 1 0) (sym (at-other p xs y j other)) ∙ sym (bit_at-mask_of p (xs ++ y ∷ []) j))
+    ∙ bit_at-mask_of p xs j ∙ ap (λ b. cond b 1 0) (sym (at-other p xs y j other)) ∙ sym (bit_at-mask_of p (xs ++ y ∷ []) j))
     (cases_eq j (length xs)))
 
 -- one more element, which fails
@@ -108,9 +107,11 @@ and_ones p xs l = same_from_bits _ _ (λ j. bit_at_and (mask_of p xs) (2 ^ 128 -
   where
     none : (j : ℕ) → 128 ≤ j → bit_at (mask_of p xs) j ≡ 0
     none j ge = bit_at-mask_of p xs j ∙ ap (λ b. cond b 1 0) (at-past p xs j (omega arith))
+
     small : (b : Bool) → min (cond b 1 0) 1 ≡ cond b 1 0
     small true = refl
     small false = refl
+
     least : (n : ℕ) → min 0 n ≡ 0
     least n = omega arith
 
@@ -122,6 +123,7 @@ mask_of-zero p (x ∷ xs) = head (p x) (mask_of p xs) (list_any p xs) (mask_of-z
     twice : (m : ℕ) → eqb (0 + 2 * m) 0 ≡ eqb m 0
     twice zero = refl
     twice (suc m) = ne_eqb (0 + 2 * suc m) 0 (λ e. omega (arith, e)) ∙ sym (ne_eqb (suc m) 0 (λ e. omega (arith, e)))
+
     head : (b : Bool) (m : ℕ) (r : Bool) → eqb m 0 ≡ not r → eqb (cond b 1 0 + 2 * m) 0 ≡ not (b || r)
     head true m r e = ne_eqb (1 + 2 * m) 0 (λ z. omega (arith, z))
     head false m r e = twice m ∙ e

@@ -47,9 +47,9 @@ not_past (suc n) k a b m hk ha hb le = cond_both (eqb (k % b) 0) k (multiple_fro
   where
     next : eqb (k % b) 0 ≡ false → k + a ≤ m
     next e = ⊎_elim
-      (λ (less : k < m). let step : a ≤ m - k = le_of_dvd (omega arith) (dvd-sub a ha hk) in omega (arith, step, less))
-      (λ (ge : m ≤ k). absurd (eqb-false (k % b) 0 e (mod-eq-zero_of_dvd b (subst (λ x. b ∣ x) (let s : m ≡ k = omega (arith, ge, le) in s) hb))))
-      (cases_lt k m)
+        (λ (less : k < m). let step : a ≤ m - k = le_of_dvd (omega arith) (dvd-sub a ha hk) in omega (arith, step, less))
+        (λ (ge : m ≤ k). absurd (eqb-false (k % b) 0 e (mod-eq-zero_of_dvd b (subst (λ x. b ∣ x) (let s : m ≡ k = omega (arith, ge, le) in s) hb))))
+        (cases_lt k m)
 
 at_least : (n k a b : ℕ) → k ≤ multiple_from n k a b
 at_least zero k a b = omega arith
@@ -109,7 +109,7 @@ rest_end {A} f h xs i l = ap (λ (ys : List A). fold lcm h (map f ys)) (drop_all
 pub rest_over : {A : Type 0} (f : A → ℕ) (h most : ℕ) (xs : List A) (i : ℕ) (x : A) → i < length xs → x ≡ get_or xs i x → most < lcm h (f x) → most < fold lcm h (map f (drop i xs))
 rest_over {A} f h most xs i x l e over =
     subst (λ (n : ℕ). most < n) (ap (λ (y : A). fold lcm (lcm h (f y)) (map f (drop (i + 1) xs))) e ∙ sym (rest_more f h xs i x l))
-      (omega (arith, over, grows (lcm h (f x)) (map f (drop (i + 1) xs))))
+    (omega (arith, over, grows (lcm h (f x)) (map f (drop (i + 1) xs))))
 
 pub rest_next : {A : Type 0} (f : A → ℕ) (h : ℕ) (xs : List A) (i : ℕ) (x : A) → i < length xs → x ≡ get_or xs i x → fold lcm (lcm h (f x)) (map f (drop (i + 1) xs)) ≡ fold lcm h (map f (drop i xs))
 rest_next {A} f h xs i x l e = ap (λ (y : A). fold lcm (lcm h (f y)) (map f (drop (i + 1) xs))) e ∙ sym (rest_more f h xs i x l)

@@ -11,8 +11,8 @@ use Rattle.app_graph.proofs.Joined.{sum_joined}
 -- the pairs of one more task
 pub pairs_more : (ts : List RawTask) (apps : List RawApp) (i : ℕ) (t : RawTask) → i < length ts → t ≡ get_or ts i t
     → pairs_in (drop i ts ++ flat_map (λ a. a.tasks) apps)
-      ≡ count_by (λ u. bytes_eq t.node u.node) (drop (i + 1) ts) + sum_by (λ a. count_by (λ u. bytes_eq t.node u.node) a.tasks) apps
-        + pairs_in (drop (i + 1) ts ++ flat_map (λ a. a.tasks) apps)
+    ≡ count_by (λ u. bytes_eq t.node u.node) (drop (i + 1) ts) + sum_by (λ a. count_by (λ u. bytes_eq t.node u.node) a.tasks) apps
+    + pairs_in (drop (i + 1) ts ++ flat_map (λ a. a.tasks) apps)
 pairs_more ts apps i t l e =
     let later = flat_map (λ (a : RawApp). a.tasks) apps in
     ap (λ (us : List RawTask). pairs_in (us ++ later)) (drop_more ts i t l)

@@ -30,11 +30,11 @@ breaks_first Memory r rs h = tt
 -- the rest of a walk from place i, where the rule looks at what came before
 pub after_rest : {Fault A : Type 0} (rule : List A → A → Rule Fault) (before xs : List A) (i : ℕ) (d : A) → i < length xs
     → each_after rule (before ++ take i xs) (drop i xs)
-      ≡ first_of (rule (before ++ take i xs) (get_or xs i d) ∷ each_after rule (before ++ take (i + 1) xs) (drop (i + 1) xs) ∷ [])
+    ≡ first_of (rule (before ++ take i xs) (get_or xs i d) ∷ each_after rule (before ++ take (i + 1) xs) (drop (i + 1) xs) ∷ [])
 after_rest {Fault} {A} rule before xs i d l =
     ap (λ (ys : List A). each_after rule (before ++ take i xs) ys) (drop_more xs i d l)
     ∙ ap (λ (ys : List A). first_of (rule (before ++ take i xs) (get_or xs i d) ∷ each_after rule ys (drop (i + 1) xs) ∷ []))
-      (append_assoc before (take i xs) (get_or xs i d ∷ []) ∙ ap (λ (ys : List A). before ++ ys) (sym (take_more xs i d l)))
+    (append_assoc before (take i xs) (get_or xs i d ∷ []) ∙ ap (λ (ys : List A). before ++ ys) (sym (take_more xs i d l)))
 
 -- where the rule is kept at place i, the rest from the next place decides
 pub after_kept : {Fault A : Type 0} (rule : List A → A → Rule Fault) (before xs : List A) (i : ℕ) (d : A) → i < length xs

@@ -19,4 +19,4 @@ abbrev pub HyperperiodLaw : Type 0
 HyperperiodLaw =
     (periods : List ℕ) → All (λ p. 0 < p) periods
     → (0 < hyperperiod periods) × All (λ p. p ∣ hyperperiod periods) periods
-      × ((m : ℕ) → All (λ p. p ∣ m) periods → hyperperiod periods ∣ m)
+    × ((m : ℕ) → All (λ p. p ∣ m) periods → hyperperiod periods ∣ m)

@@ -6,5 +6,6 @@ pub mod ValueRules
 pub mod Cycles
 pub mod Masks
 pub mod Numbering
+pub mod Queries
 pub mod Checks
 pub mod Validation

@@ -24,7 +24,10 @@ fn check_own(alloc: Global, earlier: &[RawApp], app: &RawApp) -> Result<(), Grap
 {
     check_name(alloc, &app.name, is_app_name(&app.name, earlier))?;
     in_range(is_within(1, 1_000_000_000, app.period), Key::KPeriod)?;
-    in_range(is_within(1, 1_000_000_000_000, app.deadline), Key::KDeadline)?;
+    in_range(
+        is_within(1, 1_000_000_000_000, app.deadline),
+        Key::KDeadline,
+    )?;
     in_range(!app.tasks.as_slice().is_empty(), Key::KTask)
 }
 
@@ -38,7 +41,12 @@ fn check_graph(alloc: Global, app: &RawApp) -> Result<(), GraphFault>
 }
 
 /// An application of a mode after the `earlier` ones.
-fn check_app(alloc: Global, set: &RawSet, earlier: &[RawApp], app: &RawApp) -> Result<(), GraphFault>
+fn check_app(
+    alloc: Global,
+    set: &RawSet,
+    earlier: &[RawApp],
+    app: &RawApp,
+) -> Result<(), GraphFault>
     requires { length (flat_map (λ a. a.tasks) earlier.now) ≤ 128 }
     ensures { Checks result (app_values set.now earlier.now app.now) }
 {
@@ -60,7 +68,12 @@ fn check_apps(alloc: Global, set: &RawSet, mode: &RawMode) -> Result<(), GraphFa
 }
 
 /// A mode after the `earlier` ones.
-fn check_mode(alloc: Global, set: &RawSet, earlier: &[RawMode], mode: &RawMode) -> Result<(), GraphFault>
+fn check_mode(
+    alloc: Global,
+    set: &RawSet,
+    earlier: &[RawMode],
+    mode: &RawMode,
+) -> Result<(), GraphFault>
     requires { pos 0 <ℤ set.now.round }
     ensures { Checks result (mode_values set.now earlier.now mode.now) }
 {

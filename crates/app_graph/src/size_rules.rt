@@ -54,7 +54,11 @@ fn left_after_runs(apps: &[RawApp], hyper: u64, limit: u64) -> Option<u64>
 {
     let mut left = limit;
     for app in apps {
-        left = less(left, app.tasks.as_slice().len(), hyper / app.period.unsigned_abs())?;
+        left = less(
+            left,
+            app.tasks.as_slice().len(),
+            hyper / app.period.unsigned_abs(),
+        )?;
     }
     Some(left)
 }
@@ -66,7 +70,11 @@ fn left_after_instances(apps: &[RawApp], hyper: u64, limit: u64) -> Option<u64>
 {
     let mut left = limit;
     for app in apps {
-        left = less(left, app.messages.as_slice().len(), hyper / app.period.unsigned_abs())?;
+        left = less(
+            left,
+            app.messages.as_slice().len(),
+            hyper / app.period.unsigned_abs(),
+        )?;
     }
     Some(left)
 }

@@ -1,14 +1,14 @@
 -- Beacons of a hyperperiod come in order
-use Rattle.std.proofs.Common.{◌≡◌, ℕ, zero, suc, ◌+◌, ◌-◌, ◌*◌, ◌<◌, ◌≤◌, Bool, true, false, cond, ◌&&◌, List, [], ◌∷◌, length, get_or, refl, sym, ◌∙◌, ap, subst, arith, ◌⊎◌, inl, inr, ⊎_elim, ℤ, pos, ◌+ℤ◌, ◌≤ℤ◌, ◌<ℤ◌}
-use Rattle.std.specs.Prelude.{Option, Some, None, nat_eq, unwrap_or}
+use Rattle.std.proofs.Common.{◌≡◌, ℕ, zero, suc, ◌+◌, ◌-◌, ◌<◌, ◌≤◌, Bool, true, false, cond, ◌&&◌, List, [], ◌∷◌, length, get_or, refl, sym, ◌∙◌, ap, subst, arith, ◌⊎◌, inl, inr, ⊎_elim, ℤ, pos, ◌<ℤ◌}
+use Rattle.std.specs.Prelude.{Option, Some, None, unwrap_or}
 use Rattle.std.proofs.lemmas.Bool.{cases_lt, cases_Bool, cond-true, cond-false}
 use Rattle.std.proofs.lemmas.Int.{ints}
 use Rattle.sched_model.specs.Numbers.{natural}
 use Rattle.sched_model.specs.Rounds.{round_start}
-use Rattle.runtime_model.specs.Entries.{Entry, Action, task_ends, beacon, slot, task_starts, cycle}
+use Rattle.runtime_model.specs.Entries.{Entry, Action, task_ends, beacon, slot, task_starts}
 use Rattle.runtime_model.specs.History.{history, step_of, last_spot, next_place, spot_next, entries, entry_at, moment, performed, finished_or_not, sent_or_not, start_or_not}
 use Rattle.runtime_model.specs.LookingBack.{recall, runs, last_beacon}
-use Rattle.runtime_model.specs.Outcomes.{PlainEvent, advance, request, restart, Spot, Step, Outcome, beaconed, is_beacon, begun_run}
+use Rattle.runtime_model.specs.Outcomes.{PlainEvent, advance, request, restart, Spot, Step, is_beacon, begun_run}
 use Rattle.runtime_model.specs.Packets.{packet}
 use Rattle.runtime_model.specs.Placement.{placed, own_start, ends_run, ending_run_at}
 use Rattle.runtime_model.specs.Laws.{AllRight}
@@ -18,7 +18,7 @@ use Rattle.runtime_model.specs.System.{System, plan_at}
 use Rattle.runtime_model.proofs.Cycles.{none, has_beacon, entry_right, RightAt, key_order, key}
 use Rattle.runtime_model.proofs.Times.{natural_is, round_from_zero}
 use Rattle.runtime_model.proofs.OutRegisters.{Is, H}
-use Rattle.runtime_model.proofs.Spots.{Same, Within, Opens, Moves, moves, stands}
+use Rattle.runtime_model.proofs.Spots.{Same, Within, Opens, moves, stands}
 
 -- the entry at place i of the last hyperperiod is a beacon
 abbrev pub BeaconAt : System → List Step → ℕ → Bool
@@ -41,7 +41,7 @@ pub record Seen (y : System) (ds : List Step) : Type 0 where
 abbrev pub Unseen : System → List Step → Type 0
 Unseen y ds = (i : ℕ) → i < next_place ds → BeaconAt y ds i ≡ false
 
--- an outcome_of is a beacon exactly where the entry is one
+-- an outcome is a beacon exactly where the entry is one
 pub outcome_is : (y : System) (p : Plan) (s : Spot) (lost : ℕ) (ds : List Step) (u : ℕ) (w : Action) → is_beacon (performed y p s lost ds u w) ≡ opens_round w
 outcome_is y p s lost ds u (task_ends a) = of_end (cond (ends_run p s.turn u a) (recall (node_of p a) s.stay (begun_run a (ending_run_at p s.turn u a)) ds) None)
   where
@@ -76,29 +76,34 @@ seen_or_not y some (advance lost ∷ es) =
     let is = outcome_is y (plan_at y s.hyper.mode) s lost ds e.tick e.action in
     let nonempty = some (advance lost ∷ es) in
     let in_cycle_now : s.index < length (entries y s.hyper.mode) = ⊎_elim (λ (m : Same y ds s). subst (λ (z : ℕ). s.index < length (entries y z)) (sym m.alike.mode) (omega (arith, m.inside, m.index)))
-        (λ r. ⊎_elim (λ (m : Within y ds s). omega (arith, m.index, nonempty)) (λ (m : Opens y ds s). omega (arith, m.index, nonempty)) r) (moves y ds (stands y es)) in
+    (λ r. ⊎_elim (λ (m : Within y ds s). omega (arith, m.index, nonempty)) (λ (m : Opens y ds s). omega (arith, m.index, nonempty)) r) (moves y ds (stands y es)) in
     ⊎_elim
-      (λ (yes : opens_round e.action ≡ true).
-        inl (record { done = d; is_last = cond-true (is_beacon d.out) (Some d) (last_beacon ds) (is ∙ yes); stay = refl; turn = refl; mode = refl; begin = refl; past = omega arith; inside = in_cycle_now; is_beacon = yes; quiet = λ i a b. absurd (omega (arith, a, b)) }))
-      (λ (no_beacon : opens_round e.action ≡ false).
-        let same_last = cond-false (is_beacon d.out) (Some d) (last_beacon ds) (is ∙ no_beacon) in
-        let others = λ (lo : ℕ) (before : (i : ℕ) → lo ≤ i → i < s.index → BeaconAt y (d ∷ ds) i ≡ false) (i : ℕ) (a : lo ≤ i) (b : i < suc s.index). quiet_more y (d ∷ ds) s.index lo before no_beacon i a b in
-        ⊎_elim
-          (λ (m : Same y ds s).
-            let mode = m.alike.mode in
-            ⊎_elim
-              (λ (h : Seen y ds). inl (record {
-                done = h.done; is_last = same_last ∙ h.is_last; stay = h.stay ∙ sym m.stay; turn = h.turn ∙ sym m.turn; mode = h.mode ∙ sym mode; begin = h.begin ∙ sym m.begin;
-                past = omega (arith, h.past, m.index);
-                inside = subst (λ (z : ℕ). h.done.spot.index < length (entries y z)) (sym mode) h.inside;
-                is_beacon = ap (λ (z : ℕ). opens_round (get_or (entries y z) h.done.spot.index none).action) mode ∙ h.is_beacon;
-                quiet = λ i a b. others (suc h.done.spot.index) (λ i a b. ap (λ (z : ℕ). opens_round (get_or (entries y z) i none).action) mode ∙ h.quiet i (omega (arith, a)) (omega (arith, b, m.index))) i (omega (arith, a)) b;
-              }))
-              (λ (h : Unseen y ds). inr (λ i b. others 0 (λ i a b. ap (λ (z : ℕ). opens_round (get_or (entries y z) i none).action) mode ∙ h i (omega (arith, b, m.index))) i (omega arith) b))
-              (seen_or_not y some es))
-          (λ r. inr (λ i b. others 0 (λ i a b. absurd (omega (arith, b, ⊎_elim (λ (m : Within y ds s). m.index) (λ (m : Opens y ds s). m.index) r))) i (omega arith) b))
-          (moves y ds (stands y es)))
-      (cases_Bool (opens_round e.action))
+    (λ (yes : opens_round e.action ≡ true).
+    inl (record { done = d; is_last = cond-true (is_beacon d.out) (Some d) (last_beacon ds) (is ∙ yes); stay = refl; turn = refl; mode = refl; begin = refl; past = omega arith; inside = in_cycle_now; is_beacon = yes; quiet = λ i a b. absurd (omega (arith, a, b)) }))
+    (λ (no_beacon : opens_round e.action ≡ false).
+    let same_last = cond-false (is_beacon d.out) (Some d) (last_beacon ds) (is ∙ no_beacon) in
+    let others = λ (lo : ℕ) (before : (i : ℕ) → lo ≤ i → i < s.index → BeaconAt y (d ∷ ds) i ≡ false) (i : ℕ) (a : lo ≤ i) (b : i < suc s.index). quiet_more y (d ∷ ds) s.index lo before no_beacon i a b in
+    ⊎_elim
+    (λ (m : Same y ds s).
+    let mode = m.alike.mode in
+    ⊎_elim
+    (λ (h : Seen y ds). inl (record {
+      done = h.done;
+      is_last = same_last ∙ h.is_last;
+      stay = h.stay ∙ sym m.stay;
+      turn = h.turn ∙ sym m.turn;
+      mode = h.mode ∙ sym mode;
+      begin = h.begin ∙ sym m.begin;
+      past = omega (arith, h.past, m.index);
+      inside = subst (λ (z : ℕ). h.done.spot.index < length (entries y z)) (sym mode) h.inside;
+      is_beacon = ap (λ (z : ℕ). opens_round (get_or (entries y z) h.done.spot.index none).action) mode ∙ h.is_beacon;
+      quiet = λ i a b. others (suc h.done.spot.index) (λ i a b. ap (λ (z : ℕ). opens_round (get_or (entries y z) i none).action) mode ∙ h.quiet i (omega (arith, a)) (omega (arith, b, m.index))) i (omega (arith, a)) b;
+    }))
+    (λ (h : Unseen y ds). inr (λ i b. others 0 (λ i a b. ap (λ (z : ℕ). opens_round (get_or (entries y z) i none).action) mode ∙ h i (omega (arith, b, m.index))) i (omega arith) b))
+    (seen_or_not y some es))
+    (λ r. inr (λ i b. others 0 (λ i a b. absurd (omega (arith, b, ⊎_elim (λ (m : Within y ds s). m.index) (λ (m : Opens y ds s). m.index) r))) i (omega arith) b))
+    (moves y ds (stands y es)))
+    (cases_Bool (opens_round e.action))
   where
     quiet_more : (y : System) (ds : List Step) (n lo : ℕ) → ((i : ℕ) → lo ≤ i → i < n → BeaconAt y ds i ≡ false) → BeaconAt y ds n ≡ false → (i : ℕ) → lo ≤ i → i < suc n → BeaconAt y ds i ≡ false
     quiet_more y ds n lo before here i a b =
@@ -120,18 +125,18 @@ module _ (y : System) (md : ℕ) (ok : RightPlan y.nodes (plan_at y md)) where
       let r = length (plan_at y md).schedule.starts in
       let e = ok.right.s1.end (r - 1) (omega (arith, l)) in
       ⊎_elim
-        (λ (h : j < r - 1). let a = later_start (r - 2 - j) j (omega (arith, h)) in
-          let q = ap (round_start (plan_at y md).schedule) (let q : suc (r - 2 - j + j) ≡ r - 1 = omega (arith, h) in q) in
-          omega (arith, ints, a, q, e, ok.valid.round))
-        (λ (h : r - 1 ≤ j). let q = ap (round_start (plan_at y md).schedule) (let q : r - 1 ≡ j = omega (arith, h, l) in q) in omega (arith, ints, q, e, ok.valid.round))
-        (cases_lt j (r - 1))
+      (λ (h : j < r - 1). let a = later_start (r - 2 - j) j (omega (arith, h)) in
+      let q = ap (round_start (plan_at y md).schedule) (let q : suc (r - 2 - j + j) ≡ r - 1 = omega (arith, h) in q) in
+      omega (arith, ints, a, q, e, ok.valid.round))
+      (λ (h : r - 1 ≤ j). let q = ap (round_start (plan_at y md).schedule) (let q : r - 1 ≡ j = omega (arith, h, l) in q) in omega (arith, ints, q, e, ok.valid.round))
+      (cases_lt j (r - 1))
 
   -- the place of a beacon
-  beacon_place : (j : ℕ) → j < length (plan_at y md).schedule.starts → (i : ℕ) × Is y md i (natural (round_start (plan_at y md).schedule j)) (beacon j)
+  pub beacon_place : (j : ℕ) → j < length (plan_at y md).schedule.starts → (i : ℕ) × Is y md i (natural (round_start (plan_at y md).schedule j)) (beacon j)
   beacon_place j l = let h = has_beacon y.nodes (plan_at y md) j l (omega (arith, ints, before_end j l, start_is j l)) in (h.0, (h.1, h.2))
 
   -- of two beacons the one of the lower place is first
-  beacon_order : (i j g k t u : ℕ) → Is y md i t (beacon j) → Is y md g u (beacon k) → j < k → i < g
+  pub beacon_order : (i j g k t u : ℕ) → Is y md i t (beacon j) → Is y md g u (beacon k) → j < k → i < g
   beacon_order i j g k t u a b l =
       let ra = (subst (λ (x : Entry). RightAt (plan_at y md) x.tick x.action) a.1 (entry_right y.nodes (plan_at y md) i a.0).1) in
       let rb = (subst (λ (x : Entry). RightAt (plan_at y md) x.tick x.action) b.1 (entry_right y.nodes (plan_at y md) g b.0).1) in
@@ -140,7 +145,7 @@ module _ (y : System) (md : ℕ) (ok : RightPlan y.nodes (plan_at y md)) where
       let sooner : t < u = omega (arith, ints, late, q, start_is j ra.0, start_is k rb.0, ra.1, rb.1) in
       key_order y.nodes (plan_at y md) i g a.0 b.0 (omega (arith, ap key a.1, ap key b.1, sooner))
 
--- the entry of a call_state beacon
+-- the entry of a seen beacon
 pub seen_entry : (w : Action) → opens_round w ≡ true → (j : ℕ) × (w ≡ beacon j)
 seen_entry (beacon j) e = (j, refl)
 seen_entry (task_ends a) e = absurd cc
@@ -151,13 +156,13 @@ abbrev pub gap_of_mode : System → ℕ → ℕ
 gap_of_mode y md = (plan_at y md).mode.gap
 
 module _ (y : System) (right : AllRight y) where
-  some_round : (es : List PlainEvent) → 0 < length (plan_at y (last_spot (history y es)).hyper.mode).schedule.starts
+  pub some_round : (es : List PlainEvent) → 0 < length (plan_at y (last_spot (history y es)).hyper.mode).schedule.starts
   some_round es = let k = right es in omega (arith, k.right.shape.some, k.right.shape.starts)
 
-  some : SomeEntries y
+  pub some : SomeEntries y
   some es = let w = beacon_place y (last_spot (history y es)).hyper.mode (right es) 0 (some_round es) in omega (arith, w.1.0)
 
-  -- what a call_state beacon is, and when
+  -- what a seen beacon is, and when
   seen_round : (es : List PlainEvent) (h : Seen y (history y es)) → (j : ℕ) × (j < length (plan_at y (last_spot (history y es)).hyper.mode).schedule.starts)
       × Is y (last_spot (history y es)).hyper.mode h.done.spot.index (natural (round_start (plan_at y (last_spot (history y es)).hyper.mode).schedule j)) (beacon j)
       × (moment y h.done ≡ (last_spot (history y es)).begin + natural (round_start (plan_at y (last_spot (history y es)).hyper.mode).schedule j))
@@ -170,19 +175,19 @@ module _ (y : System) (right : AllRight y) where
       let mode = ap (λ (z : ℕ). (get_or (entries y z) h.done.spot.index none).tick) h.mode in
       (w.0, at.0, subst (λ z. Is y md h.done.spot.index z (beacon w.0)) (sym at.1) here, omega (arith, h.begin, mode, at.1))
 
-  -- a beacon of a lower place that is past is no later than the call_state one
-  not_lower : (es : List PlainEvent) (h : Seen y (history y es)) (j k i : ℕ) → Is y (last_spot (history y es)).hyper.mode h.done.spot.index (natural (round_start (plan_at y (last_spot (history y es)).hyper.mode).schedule j)) (beacon j) →
+  -- a beacon of a lower place that is past is no later than the seen one
+  pub not_lower : (es : List PlainEvent) (h : Seen y (history y es)) (j k i : ℕ) → Is y (last_spot (history y es)).hyper.mode h.done.spot.index (natural (round_start (plan_at y (last_spot (history y es)).hyper.mode).schedule j)) (beacon j) →
       Is y (last_spot (history y es)).hyper.mode i (natural (round_start (plan_at y (last_spot (history y es)).hyper.mode).schedule k)) (beacon k) → i < next_place (history y es) → k ≤ j
   not_lower es h j k i a b past =
       let md = (last_spot (history y es)).hyper.mode in
       ⊎_elim
-        (λ (less : j < k). absurd (let q = h.quiet i (beacon_order y md (right es) h.done.spot.index j i k _ _ a b less) past in
-          let r : opens_round (get_or (entries y md) i none).action ≡ true = ap (λ (z : Entry). opens_round z.action) b.1 in
-          let s : true ≡ false = sym r ∙ q in cc))
-        (λ (le : k ≤ j). le)
-        (cases_lt j k)
+      (λ (less : j < k). absurd (let q = h.quiet i (beacon_order y md (right es) h.done.spot.index j i k _ _ a b less) past in
+      let r : opens_round (get_or (entries y md) i none).action ≡ true = ap (λ (z : Entry). opens_round z.action) b.1 in
+      let s : true ≡ false = sym r ∙ q in cc))
+      (λ (le : k ≤ j). le)
+      (cases_lt j k)
 
-  not_unseen : (es : List PlainEvent) → Unseen y (history y es) → (i k t : ℕ) → Is y (last_spot (history y es)).hyper.mode i t (beacon k) → i < next_place (history y es) → ⊥
+  pub not_unseen : (es : List PlainEvent) → Unseen y (history y es) → (i k t : ℕ) → Is y (last_spot (history y es)).hyper.mode i t (beacon k) → i < next_place (history y es) → ⊥
   not_unseen es h i k t b past =
       let md = (last_spot (history y es)).hyper.mode in
       let r : opens_round (get_or (entries y md) i none).action ≡ true = ap (λ (z : Entry). opens_round z.action) b.1 in
@@ -199,15 +204,15 @@ module _ (y : System) (right : AllRight y) where
       let k = right es in
       let w = beacon_place y md k (r - 1) (omega (arith, some_round es)) in
       ⊎_elim
-        (λ (h : Seen y ds).
-          let q = seen_round es h in
-          let low = not_lower es h q.0 (r - 1) w.0 q.2 w.1 (omega (arith, w.1.0, over)) in
-          let last : suc q.0 ≡ r = omega (arith, q.1, low) in
-          let g = k.right.s2.across q.0 last in
-          let gap = ap (λ (z : ℕ). (plan_at y z).mode.gap) h.mode in
-          (h.done, h.is_last, omega (arith, ints, g, start_is y md k q.0 q.1, q.3, gap)))
-        (λ (h : Unseen y ds). absurd (not_unseen es h w.0 (r - 1) (natural (round_start p.schedule (r - 1))) w.1 (omega (arith, w.1.0, over))))
-        (seen_or_not y some es)
+      (λ (h : Seen y ds).
+      let q = seen_round es h in
+      let low = not_lower es h q.0 (r - 1) w.0 q.2 w.1 (omega (arith, w.1.0, over)) in
+      let last : suc q.0 ≡ r = omega (arith, q.1, low) in
+      let g = k.right.s2.across q.0 last in
+      let gap = ap (λ (z : ℕ). (plan_at y z).mode.gap) h.mode in
+      (h.done, h.is_last, omega (arith, ints, g, start_is y md k q.0 q.1, q.3, gap)))
+      (λ (h : Unseen y ds). absurd (not_unseen es h w.0 (r - 1) (natural (round_start p.schedule (r - 1))) w.1 (omega (arith, w.1.0, over))))
+      (seen_or_not y some es)
 
   -- before the first beacon of a hyperperiod the last one is at most the gap before its start
   crossed : (es : List PlainEvent) → Unseen y (history y es) → (last_beacon (history y es) ≡ None) ⊎ ((g : Step) × (last_beacon (history y es) ≡ Some g) × ((last_spot (history y es)).begin ≤ moment y g + gap_of_mode y g.spot.hyper.mode))
@@ -222,15 +227,15 @@ module _ (y : System) (right : AllRight y) where
       let is = outcome_is y (plan_at y s.hyper.mode) s lost ds e.tick e.action in
       let same_last = cond-false (is_beacon d.out) (Some d) (last_beacon ds) (is ∙ u s.index (omega arith)) in
       ⊎_elim
-        (λ (m : Same y ds s).
-          ⊎_elim (λ (x : last_beacon ds ≡ None). inl (same_last ∙ x))
-            (λ (x : (g : Step) × (last_beacon ds ≡ Some g) × ((last_spot ds).begin ≤ moment y g + gap_of_mode y g.spot.hyper.mode)). inr (x.0, same_last ∙ x.1, omega (arith, x.2, m.begin)))
-            (crossed es (λ i l. sym (ap (λ (z : ℕ). opens_round (get_or (entries y z) i none).action) m.alike.mode) ∙ u i (omega (arith, l, m.index)))))
-        (λ r. let over : length (entries y (last_spot ds).hyper.mode) ≤ next_place ds = ⊎_elim (λ (m : Within y ds s). m.over) (λ (m : Opens y ds s). m.over) r in
-          let begin : s.begin ≡ (last_spot ds).begin + H y (last_spot ds).hyper.mode = ⊎_elim (λ (m : Within y ds s). m.begin) (λ (m : Opens y ds s). m.begin) r in
-          let x = ended_gap es over in
-          inr (x.0, same_last ∙ x.1, omega (arith, x.2, begin)))
-        (moves y ds (stands y es))
+      (λ (m : Same y ds s).
+      ⊎_elim (λ (x : last_beacon ds ≡ None). inl (same_last ∙ x))
+      (λ (x : (g : Step) × (last_beacon ds ≡ Some g) × ((last_spot ds).begin ≤ moment y g + gap_of_mode y g.spot.hyper.mode)). inr (x.0, same_last ∙ x.1, omega (arith, x.2, m.begin)))
+      (crossed es (λ i l. sym (ap (λ (z : ℕ). opens_round (get_or (entries y z) i none).action) m.alike.mode) ∙ u i (omega (arith, l, m.index)))))
+      (λ r. let over : length (entries y (last_spot ds).hyper.mode) ≤ next_place ds = ⊎_elim (λ (m : Within y ds s). m.over) (λ (m : Opens y ds s). m.over) r in
+      let begin : s.begin ≡ (last_spot ds).begin + H y (last_spot ds).hyper.mode = ⊎_elim (λ (m : Within y ds s). m.begin) (λ (m : Opens y ds s). m.begin) r in
+      let x = ended_gap es over in
+      inr (x.0, same_last ∙ x.1, omega (arith, x.2, begin)))
+      (moves y ds (stands y es))
 
   -- within a hyperperiod
   in_turn : (es : List PlainEvent) (h : Seen y (history y es)) (g : Step) (i t k b : ℕ) → last_beacon (history y es) ≡ Some g → Is y (last_spot (history y es)).hyper.mode i t (beacon k) → i ≡ next_place (history y es) → b ≡ (last_spot (history y es)).begin →
@@ -246,26 +251,26 @@ module _ (y : System) (right : AllRight y) where
       let m = ap (moment y) same in
       let gap = ap (λ (d : Step). gap_of_mode y d.spot.hyper.mode) (sym same) ∙ ap (gap_of_mode y) h.mode in
       ⊎_elim
-        (λ (less : q.0 < k).
-          let w = beacon_place y md r (k - 1) (omega (arith, at.0)) in
-          let low = not_lower es h q.0 (k - 1) w.0 q.2 w.1 (omega (arith, beacon_order y md r w.0 (k - 1) i k _ _ w.1 is (omega (arith, less)), now)) in
-          let next : suc q.0 ≡ k = omega (arith, less, low) in
-          let e = ap (λ j. natural (round_start p.schedule j)) next in
-          let s2 = r.right.s2.within q.0 (omega (arith, next, at.0)) in
-          omega (arith, ints, s2, e, at.1, start_is y md r q.0 q.1, start_is y md r (suc q.0) (omega (arith, next, at.0)), q.3, m, gap, begin))
-        (λ (le : k ≤ q.0). ⊎_elim
-          (λ (less : k < q.0). absurd (omega (arith, beacon_order y md r i k h.done.spot.index q.0 _ _ is q.2 less, h.past, now)))
-          (λ (ge : q.0 ≤ k). let e = ap (λ j. natural (round_start p.schedule j)) (let x : q.0 ≡ k = omega (arith, le, ge) in x) in omega (arith, e, at.1, q.3, m, begin))
-          (cases_lt k q.0))
-        (cases_lt q.0 k)
+      (λ (less : q.0 < k).
+      let w = beacon_place y md r (k - 1) (omega (arith, at.0)) in
+      let low = not_lower es h q.0 (k - 1) w.0 q.2 w.1 (omega (arith, beacon_order y md r w.0 (k - 1) i k _ _ w.1 is (omega (arith, less)), now)) in
+      let next : suc q.0 ≡ k = omega (arith, less, low) in
+      let e = ap (λ j. natural (round_start p.schedule j)) next in
+      let s2 = r.right.s2.within q.0 (omega (arith, next, at.0)) in
+      omega (arith, ints, s2, e, at.1, start_is y md r q.0 q.1, start_is y md r (suc q.0) (omega (arith, next, at.0)), q.3, m, gap, begin))
+      (λ (le : k ≤ q.0). ⊎_elim
+      (λ (less : k < q.0). absurd (omega (arith, beacon_order y md r i k h.done.spot.index q.0 _ _ is q.2 less, h.past, now)))
+      (λ (ge : q.0 ≤ k). let e = ap (λ j. natural (round_start p.schedule j)) (let x : q.0 ≡ k = omega (arith, le, ge) in x) in omega (arith, e, at.1, q.3, m, begin))
+      (cases_lt k q.0))
+      (cases_lt q.0 k)
 
-  index_now : (es : List PlainEvent) (lost : ℕ) → (spot_next y (history y es)).index < length (entries y (spot_next y (history y es)).hyper.mode)
+  pub index_now : (es : List PlainEvent) (lost : ℕ) → (spot_next y (history y es)).index < length (entries y (spot_next y (history y es)).hyper.mode)
   index_now es lost =
       let ds = history y es in
       let s = spot_next y ds in
       let nonempty = some (advance lost ∷ es) in
       ⊎_elim (λ (m : Same y ds s). subst (λ (z : ℕ). s.index < length (entries y z)) (sym m.alike.mode) (omega (arith, m.inside, m.index)))
-        (λ r. ⊎_elim (λ (m : Within y ds s). omega (arith, m.index, nonempty)) (λ (m : Opens y ds s). omega (arith, m.index, nonempty)) r) (moves y ds (stands y es))
+      (λ r. ⊎_elim (λ (m : Within y ds s). omega (arith, m.index, nonempty)) (λ (m : Opens y ds s). omega (arith, m.index, nonempty)) r) (moves y ds (stands y es))
 
   -- consecutive beacons are at most the gap apart
   pub beacon_gap : (es : List PlainEvent) (lost : ℕ) (g : Step) → is_beacon (step_of y (advance lost) (history y es)).out ≡ true → last_beacon (history y es) ≡ Some g →
@@ -283,38 +288,39 @@ module _ (y : System) (right : AllRight y) where
       let at = (subst (λ (x : Entry). RightAt p x.tick x.action) is.1 (entry_right y.nodes p s.index is.0).1) in
       let zero_place = beacon_place y md k 0 (omega (arith, at.0)) in
       let at_zero = λ (z : w.0 ≡ 0). let q = ap (λ j. natural (round_start p.schedule j)) z in let b = k.right.s1.begin in
-          first_tick e.tick (natural (round_start p.schedule w.0)) (natural (round_start p.schedule 0)) (sym at.1) q (ap natural b) in
+      first_tick e.tick (natural (round_start p.schedule w.0)) (natural (round_start p.schedule 0)) (sym at.1) q (ap natural b) in
       let from_end = λ (x : (h : Step) × (last_beacon ds ≡ Some h) × (s.begin ≤ moment y h + gap_of_mode y h.spot.hyper.mode)) (z : w.0 ≡ 0).
-          let same = ap (λ (o : Option Step). unwrap_or o g) (sym x.1 ∙ before) in
-          let m = ap (moment y) same in let q = ap (λ (h : Step). gap_of_mode y h.spot.hyper.mode) same in
-          added s.begin e.tick (moment y x.0) (moment y g) (gap_of_mode y x.0.spot.hyper.mode) (gap_of_mode y g.spot.hyper.mode) (at_zero z) x.2 m q in
+      let same = ap (λ (o : Option Step). unwrap_or o g) (sym x.1 ∙ before) in
+      let m = ap (moment y) same in let q = ap (λ (h : Step). gap_of_mode y h.spot.hyper.mode) same in
+      added s.begin e.tick (moment y x.0) (moment y g) (gap_of_mode y x.0.spot.hyper.mode) (gap_of_mode y g.spot.hyper.mode) (at_zero z) x.2 m q in
       ⊎_elim
-        (λ (m : Same y ds s).
-          let mode = m.alike.mode in
-          let is' : Is y (last_spot ds).hyper.mode s.index e.tick (beacon w.0) = subst (λ (z : ℕ). Is y z s.index e.tick (beacon w.0)) mode is in
-          ⊎_elim
-            (λ (h : Seen y ds). in_turn es h g s.index e.tick w.0 s.begin (before) is' m.index m.begin)
-            (λ (u : Unseen y ds). ⊎_elim
-              (λ (pos_k : 0 < w.0).
-                let z' = subst (λ (z : ℕ). Is y z zero_place.0 (natural (round_start p.schedule 0)) (beacon 0)) mode zero_place.1 in
-                absurd (not_unseen es u zero_place.0 0 (natural (round_start p.schedule 0)) z' (omega (arith, beacon_order y md k zero_place.0 0 s.index w.0 (natural (round_start p.schedule 0)) e.tick zero_place.1 is pos_k, m.index))))
-              (λ (z : w.0 ≤ 0). ⊎_elim
-                (λ (x : last_beacon ds ≡ None). absurd (let q = sym x ∙ before in grind (arith, q)))
-                (λ (x : (h : Step) × (last_beacon ds ≡ Some h) × ((last_spot ds).begin ≤ moment y h + gap_of_mode y h.spot.hyper.mode)). from_end (x.0, x.1, omega (arith, x.2, m.begin)) (omega (arith, z)))
-                (crossed es u))
-              (cases_lt 0 w.0))
-            (seen_or_not y some es))
-        (λ r. let over : length (entries y (last_spot ds).hyper.mode) ≤ next_place ds = ⊎_elim (λ (m : Within y ds s). m.over) (λ (m : Opens y ds s). m.over) r in
-          let begin : s.begin ≡ (last_spot ds).begin + H y (last_spot ds).hyper.mode = ⊎_elim (λ (m : Within y ds s). m.begin) (λ (m : Opens y ds s). m.begin) r in
-          let index : s.index ≡ 0 = ⊎_elim (λ (m : Within y ds s). m.index) (λ (m : Opens y ds s). m.index) r in
-          let x = ended_gap es over in
-          ⊎_elim
-            (λ (pos_k : 0 < w.0). absurd (omega (arith, beacon_order y md k zero_place.0 0 s.index w.0 (natural (round_start p.schedule 0)) e.tick zero_place.1 is pos_k, index)))
-            (λ (z : w.0 ≤ 0). from_end (x.0, x.1, omega (arith, x.2, begin)) (omega (arith, z)))
-            (cases_lt 0 w.0))
-        (moves y ds (stands y es))
+      (λ (m : Same y ds s).
+      let mode = m.alike.mode in
+      let is' : Is y (last_spot ds).hyper.mode s.index e.tick (beacon w.0) = subst (λ (z : ℕ). Is y z s.index e.tick (beacon w.0)) mode is in
+      ⊎_elim
+      (λ (h : Seen y ds). in_turn es h g s.index e.tick w.0 s.begin (before) is' m.index m.begin)
+      (λ (u : Unseen y ds). ⊎_elim
+      (λ (pos_k : 0 < w.0).
+      let z' = subst (λ (z : ℕ). Is y z zero_place.0 (natural (round_start p.schedule 0)) (beacon 0)) mode zero_place.1 in
+      absurd (not_unseen es u zero_place.0 0 (natural (round_start p.schedule 0)) z' (omega (arith, beacon_order y md k zero_place.0 0 s.index w.0 (natural (round_start p.schedule 0)) e.tick zero_place.1 is pos_k, m.index))))
+      (λ (z : w.0 ≤ 0). ⊎_elim
+      (λ (x : last_beacon ds ≡ None). absurd (let q = sym x ∙ before in grind (arith, q)))
+      (λ (x : (h : Step) × (last_beacon ds ≡ Some h) × ((last_spot ds).begin ≤ moment y h + gap_of_mode y h.spot.hyper.mode)). from_end (x.0, x.1, omega (arith, x.2, m.begin)) (omega (arith, z)))
+      (crossed es u))
+      (cases_lt 0 w.0))
+      (seen_or_not y some es))
+      (λ r. let over : length (entries y (last_spot ds).hyper.mode) ≤ next_place ds = ⊎_elim (λ (m : Within y ds s). m.over) (λ (m : Opens y ds s). m.over) r in
+      let begin : s.begin ≡ (last_spot ds).begin + H y (last_spot ds).hyper.mode = ⊎_elim (λ (m : Within y ds s). m.begin) (λ (m : Opens y ds s). m.begin) r in
+      let index : s.index ≡ 0 = ⊎_elim (λ (m : Within y ds s). m.index) (λ (m : Opens y ds s). m.index) r in
+      let x = ended_gap es over in
+      ⊎_elim
+      (λ (pos_k : 0 < w.0). absurd (omega (arith, beacon_order y md k zero_place.0 0 s.index w.0 (natural (round_start p.schedule 0)) e.tick zero_place.1 is pos_k, index)))
+      (λ (z : w.0 ≤ 0). from_end (x.0, x.1, omega (arith, x.2, begin)) (omega (arith, z)))
+      (cases_lt 0 w.0))
+      (moves y ds (stands y es))
     where
       first_tick : (t a b : ℕ) → t ≡ a → a ≡ b → b ≡ 0 → t ≡ 0
       first_tick t a b x z q = x ∙ z ∙ q
+
       added : (b t m n c d : ℕ) → t ≡ 0 → b ≤ m + c → m ≡ n → c ≡ d → b + t ≤ n + d
       added b t m n c d z l e f = omega (arith, z, l, e, f)

@@ -1,12 +1,12 @@
 -- The entries of a hyperperiod: in order, and each due one is there
-use Rattle.std.proofs.Common.{◌≡◌, ℕ, zero, suc, ◌+◌, ◌-◌, ◌*◌, ◌/◌, ◌%◌, ◌<◌, ◌≤◌, Bool, true, false, cond, eqb, ◌&&◌, List, [], ◌∷◌, ◌++◌, length, get_or, map, Contains, refl, sym, ◌∙◌, ap, subst, arith, ◌⊎◌, inl, inr, ⊎_elim, length-append, append-nil}
+use Rattle.std.proofs.Common.{◌≡◌, ℕ, zero, suc, ◌+◌, ◌*◌, ◌<◌, ◌≤◌, Bool, true, false, cond, ◌&&◌, List, [], ◌∷◌, ◌++◌, length, get_or, map, Contains, refl, sym, ◌∙◌, ap, subst, arith, ⊎_elim, length-append, append-nil}
 use Rattle.std.specs.Prelude.{nat_eq, slice_index_or}
 use Rattle.std.specs.List.{AllByRecursion, flat_map}
 use Rattle.std.proofs.lemmas.Bool.{cases_lt, eqb-true, eq-eqb, and_parts}
 use Rattle.std.proofs.lemmas.List.{get_or_append_left, get_or-append-add}
 use Rattle.std.proofs.lemmas.Grind.{flat_map-append}
 use Rattle.sched_model.specs.Numbers.{below, natural}
-use Rattle.sched_model.specs.PlainMode.{PlainMode, PlainMessage, hyper, task_at, message_at}
+use Rattle.sched_model.specs.PlainMode.{hyper, task_at}
 use Rattle.sched_model.specs.Rounds.{round_start}
 use Rattle.runtime_model.specs.Entries.{Entry, Action, task_ends, beacon, slot, task_starts, cycle, at_tick, by_node, round_at, due_start, due_end}
 use Rattle.runtime_model.specs.Plans.{Plan, place_from}
@@ -43,24 +43,24 @@ has_by_node : (nodes : ℕ) (p : Plan) (test : ℕ → Bool) (what : ℕ → Act
 has_by_node nodes p test what u a l on t =
     let v = (task_at p.mode a).node in
     has_flat (λ v. flat_map (λ a. cond (nat_eq (task_at p.mode a).node v && test a) (record { tick = u; action = what a } ∷ []) []) (below (length p.mode.tasks))) nodes v (record { tick = u; action = what a }) on
-      (has_flat (λ a. cond (nat_eq (task_at p.mode a).node v && test a) (record { tick = u; action = what a } ∷ []) []) (length p.mode.tasks) a (record { tick = u; action = what a }) l
-        (has_cond (nat_eq v v && test a) (record { tick = u; action = what a }) (record { tick = u; action = what a } ∷ []) (both_true (nat_eq v v) (test a) (eq-eqb v v refl) t) (has_head (record { tick = u; action = what a }) [])))
+    (has_flat (λ a. cond (nat_eq (task_at p.mode a).node v && test a) (record { tick = u; action = what a } ∷ []) []) (length p.mode.tasks) a (record { tick = u; action = what a }) l
+    (has_cond (nat_eq v v && test a) (record { tick = u; action = what a }) (record { tick = u; action = what a } ∷ []) (both_true (nat_eq v v) (test a) (eq-eqb v v refl) t) (has_head (record { tick = u; action = what a }) [])))
 
 -- each due start and each due end is in the cycle
 pub has_start : (nodes : ℕ) (p : Plan) (u a : ℕ) → u < hyper p.mode → a < length p.mode.tasks → (task_at p.mode a).node < nodes → due_start p u a ≡ true → Has (cycle nodes p) (record { tick = u; action = task_starts a })
 unfolding cycle
 has_start nodes p u a l la on t =
     has_flat (at_tick nodes p) (hyper p.mode) u (record { tick = u; action = task_starts a }) l
-      (has_right (by_node nodes p (due_end p u) task_ends u) (flat_map (round_at p u) (below (length p.schedule.starts)) ++ by_node nodes p (due_start p u) task_starts u) (record { tick = u; action = task_starts a })
-        (has_right (flat_map (round_at p u) (below (length p.schedule.starts))) (by_node nodes p (due_start p u) task_starts u) (record { tick = u; action = task_starts a })
-          (has_by_node nodes p (due_start p u) task_starts u a la on t)))
+    (has_right (by_node nodes p (due_end p u) task_ends u) (flat_map (round_at p u) (below (length p.schedule.starts)) ++ by_node nodes p (due_start p u) task_starts u) (record { tick = u; action = task_starts a })
+    (has_right (flat_map (round_at p u) (below (length p.schedule.starts))) (by_node nodes p (due_start p u) task_starts u) (record { tick = u; action = task_starts a })
+    (has_by_node nodes p (due_start p u) task_starts u a la on t)))
 
 pub has_end : (nodes : ℕ) (p : Plan) (u a : ℕ) → u < hyper p.mode → a < length p.mode.tasks → (task_at p.mode a).node < nodes → due_end p u a ≡ true → Has (cycle nodes p) (record { tick = u; action = task_ends a })
 unfolding cycle
 has_end nodes p u a l la on t =
     has_flat (at_tick nodes p) (hyper p.mode) u (record { tick = u; action = task_ends a }) l
-      (has_left (by_node nodes p (due_end p u) task_ends u) (flat_map (round_at p u) (below (length p.schedule.starts)) ++ by_node nodes p (due_start p u) task_starts u) (record { tick = u; action = task_ends a })
-        (has_by_node nodes p (due_end p u) task_ends u a la on t))
+    (has_left (by_node nodes p (due_end p u) task_ends u) (flat_map (round_at p u) (below (length p.schedule.starts)) ++ by_node nodes p (due_start p u) task_starts u) (record { tick = u; action = task_ends a })
+    (has_by_node nodes p (due_end p u) task_ends u a la on t))
 
 pub flat_below-suc : {X : Type 0} (f : ℕ → List X) (n : ℕ) → flat_map f (below (suc n)) ≡ flat_map f (below n) ++ f n
 flat_below-suc f n = flat_map-append f (below n) (n ∷ []) ∙ ap (λ l. flat_map f (below n) ++ l) (append-nil (f n))
@@ -72,10 +72,10 @@ has_beacon nodes p j lj l =
     let u = natural (round_start p.schedule j) in
     let x : Entry = record { tick = u; action = beacon j } in
     has_flat (at_tick nodes p) (hyper p.mode) u x l
-      (has_right (by_node nodes p (due_end p u) task_ends u) (flat_map (round_at p u) (below (length p.schedule.starts)) ++ by_node nodes p (due_start p u) task_starts u) x
-        (has_left (flat_map (round_at p u) (below (length p.schedule.starts))) (by_node nodes p (due_start p u) task_starts u) x
-          (has_flat (round_at p u) (length p.schedule.starts) j x lj
-            (has_cond (nat_eq u u) x (x ∷ map (λ number. record { tick = u; action = slot j (place_from 0 p.mode.messages number) }) (slice_index_or p.schedule.tables j [])) (eq-eqb u u refl) (has_head x (map (λ number. record { tick = u; action = slot j (place_from 0 p.mode.messages number) }) (slice_index_or p.schedule.tables j [])))))))
+    (has_right (by_node nodes p (due_end p u) task_ends u) (flat_map (round_at p u) (below (length p.schedule.starts)) ++ by_node nodes p (due_start p u) task_starts u) x
+    (has_left (flat_map (round_at p u) (below (length p.schedule.starts))) (by_node nodes p (due_start p u) task_starts u) x
+    (has_flat (round_at p u) (length p.schedule.starts) j x lj
+    (has_cond (nat_eq u u) x (x ∷ map (λ number. record { tick = u; action = slot j (place_from 0 p.mode.messages number) }) (slice_index_or p.schedule.tables j [])) (eq-eqb u u refl) (has_head x (map (λ number. record { tick = u; action = slot j (place_from 0 p.mode.messages number) }) (slice_index_or p.schedule.tables j [])))))))
 
 -- ---- the order
 abbrev pub rank : Action → ℕ
@@ -116,12 +116,12 @@ pub all_by_node : (P : Entry → Type 0) (nodes : ℕ) (p : Plan) (test : ℕ �
     ((a : ℕ) → a < length p.mode.tasks → test a ≡ true → P (record { tick = u; action = what a })) → AllByRecursion P (by_node nodes p test what u)
 all_by_node P nodes p test what u f =
     flat_all P (λ v. flat_map (λ a. cond (nat_eq (task_at p.mode a).node v && test a) (record { tick = u; action = what a } ∷ []) []) (below (length p.mode.tasks))) (below nodes)
-      (below_all (λ v. AllByRecursion P (flat_map (λ a. cond (nat_eq (task_at p.mode a).node v && test a) (record { tick = u; action = what a } ∷ []) []) (below (length p.mode.tasks)))) nodes (λ v l.
-        flat_all P (λ a. cond (nat_eq (task_at p.mode a).node v && test a) (record { tick = u; action = what a } ∷ []) []) (below (length p.mode.tasks))
-          (below_all (λ a. AllByRecursion P (cond (nat_eq (task_at p.mode a).node v && test a) (record { tick = u; action = what a } ∷ []) [])) (length p.mode.tasks) (λ a k.
-            cond_all P (nat_eq (task_at p.mode a).node v && test a) (record { tick = u; action = what a } ∷ []) (λ e. (f a k (and_parts (nat_eq (task_at p.mode a).node v) (test a) e).1, tt))))))
+    (below_all (λ v. AllByRecursion P (flat_map (λ a. cond (nat_eq (task_at p.mode a).node v && test a) (record { tick = u; action = what a } ∷ []) []) (below (length p.mode.tasks)))) nodes (λ v l.
+    flat_all P (λ a. cond (nat_eq (task_at p.mode a).node v && test a) (record { tick = u; action = what a } ∷ []) []) (below (length p.mode.tasks))
+    (below_all (λ a. AllByRecursion P (cond (nat_eq (task_at p.mode a).node v && test a) (record { tick = u; action = what a } ∷ []) [])) (length p.mode.tasks) (λ a k.
+    cond_all P (nat_eq (task_at p.mode a).node v && test a) (record { tick = u; action = what a } ∷ []) (λ e. (f a k (and_parts (nat_eq (task_at p.mode a).node v) (test a) e).1, tt))))))
 
-all_map : {X Y : Type 0} (P : Y → Type 0) (f : X → Y) (xs : List X) → ((x : X) → Contains xs x → P (f x)) → AllByRecursion P (map f xs)
+pub all_map : {X Y : Type 0} (P : Y → Type 0) (f : X → Y) (xs : List X) → ((x : X) → Contains xs x → P (f x)) → AllByRecursion P (map f xs)
 all_map P f [] h = tt
 all_map P f (x ∷ xs) h = (h x (0, omega arith, refl), all_map P f xs (λ z c. h z (suc c.0, omega (arith, c.1), c.2)))
 
@@ -144,8 +144,8 @@ starts_right nodes p u = all_by_node (RightIn p u 2) nodes p (due_start p u) tas
 round_right : (p : Plan) (u j : ℕ) → j < length p.schedule.starts → AllByRecursion (RightIn p u 1) (round_at p u j)
 round_right p u j l =
     cond_all (RightIn p u 1) (nat_eq (natural (round_start p.schedule j)) u) (record { tick = u; action = beacon j } ∷ map (λ number. record { tick = u; action = slot j (place_from 0 p.mode.messages number) }) (slice_index_or p.schedule.tables j []))
-      (λ e. let same = eqb-true (natural (round_start p.schedule j)) u e in
-        ((refl, (l, same), refl), all_map (RightIn p u 1) (λ (number : ℕ). record { tick = u; action = slot j (place_from 0 p.mode.messages number) }) (slice_index_or p.schedule.tables j []) (λ number n. (refl, (l, same, (number, n, refl)), refl))))
+    (λ e. let same = eqb-true (natural (round_start p.schedule j)) u e in
+    ((refl, (l, same), refl), all_map (RightIn p u 1) (λ (number : ℕ). record { tick = u; action = slot j (place_from 0 p.mode.messages number) }) (slice_index_or p.schedule.tables j []) (λ number n. (refl, (l, same, (number, n, refl)), refl))))
 
 pub rounds_right : (p : Plan) (u : ℕ) → AllByRecursion (RightIn p u 1) (flat_map (round_at p u) (below (length p.schedule.starts)))
 rounds_right p u = flat_all (RightIn p u 1) (round_at p u) (below (length p.schedule.starts)) (below_all (λ j. AllByRecursion (RightIn p u 1) (round_at p u j)) (length p.schedule.starts) (round_right p u))
@@ -156,10 +156,10 @@ At p u e = (e.tick ≡ u) × RightAt p u e.action
 pub at_right : (nodes : ℕ) (p : Plan) (u : ℕ) → AllByRecursion (At p u) (at_tick nodes p u)
 at_right nodes p u =
     all_both (At p u) (by_node nodes p (due_end p u) task_ends u) (flat_map (round_at p u) (below (length p.schedule.starts)) ++ by_node nodes p (due_start p u) task_starts u)
-      (all_more (RightIn p u 0) (At p u) (by_node nodes p (due_end p u) task_ends u) (λ x h. (h.0, h.1)) (ends_right nodes p u))
-      (all_both (At p u) (flat_map (round_at p u) (below (length p.schedule.starts))) (by_node nodes p (due_start p u) task_starts u)
-        (all_more (RightIn p u 1) (At p u) (flat_map (round_at p u) (below (length p.schedule.starts))) (λ x h. (h.0, h.1)) (rounds_right p u))
-        (all_more (RightIn p u 2) (At p u) (by_node nodes p (due_start p u) task_starts u) (λ x h. (h.0, h.1)) (starts_right nodes p u)))
+    (all_more (RightIn p u 0) (At p u) (by_node nodes p (due_end p u) task_ends u) (λ x h. (h.0, h.1)) (ends_right nodes p u))
+    (all_both (At p u) (flat_map (round_at p u) (below (length p.schedule.starts))) (by_node nodes p (due_start p u) task_starts u)
+    (all_more (RightIn p u 1) (At p u) (flat_map (round_at p u) (below (length p.schedule.starts))) (λ x h. (h.0, h.1)) (rounds_right p u))
+    (all_more (RightIn p u 2) (At p u) (by_node nodes p (due_start p u) task_starts u) (λ x h. (h.0, h.1)) (starts_right nodes p u)))
 
 abbrev pub Right : Plan → Entry → Type 0
 Right p e = (e.tick < hyper p.mode) × RightAt p e.tick e.action
@@ -168,7 +168,7 @@ cycle_right : (nodes : ℕ) (p : Plan) → AllByRecursion (Right p) (cycle nodes
 unfolding cycle
 cycle_right nodes p =
     flat_all (Right p) (at_tick nodes p) (below (hyper p.mode)) (below_all (λ u. AllByRecursion (Right p) (at_tick nodes p u)) (hyper p.mode)
-      (λ u l. all_more (At p u) (Right p) (at_tick nodes p u) (λ x h. (omega (arith, h.0, l), subst (λ u. RightAt p u x.action) (sym h.0) h.1)) (at_right nodes p u)))
+    (λ u l. all_more (At p u) (Right p) (at_tick nodes p u) (λ x h. (omega (arith, h.0, l), subst (λ u. RightAt p u x.action) (sym h.0) h.1)) (at_right nodes p u)))
 
 -- each entry of the cycle is due at its tick
 pub entry_right : (nodes : ℕ) (p : Plan) (i : ℕ) → i < length (cycle nodes p) → Right p (get_or (cycle nodes p) i none)
@@ -191,26 +191,28 @@ tick_rises nodes p u =
     let c = by_node nodes p (due_start p u) task_starts u in
     let ka = keyed p u 0 a (ends_right nodes p u) in
     let kb = keyed p u 1 b (rounds_right p u) in
-    let kc = keyed p u 2 c (starts_right nodes p u) in
-    (rises_both (3 * u + 0) a (b ++ c) (rises_flat (3 * u + 0) a ka)
-        (rises_both (3 * u + 1) b c (rises_flat (3 * u + 1) b kb) (rises_flat (3 * u + 2) c kc) (at_most (3 * u + 1) (3 * u + 1) b (omega arith) kb) (at_least (3 * u + 2) (3 * u + 1) c (omega arith) kc))
-        (at_most (3 * u + 0) (3 * u + 0) a (omega arith) ka)
-        (all_both (λ y. 3 * u + 0 ≤ key y) b c (at_least (3 * u + 1) (3 * u + 0) b (omega arith) kb) (at_least (3 * u + 2) (3 * u + 0) c (omega arith) kc)),
+    let kc = keyed p u 2 c (starts_right nodes p u) in (
+      rises_both (3 * u + 0) a (b ++ c) (rises_flat (3 * u + 0) a ka)
+          (rises_both (3 * u + 1) b c (rises_flat (3 * u + 1) b kb) (rises_flat (3 * u + 2) c kc) (at_most (3 * u + 1) (3 * u + 1) b (omega arith) kb) (at_least (3 * u + 2) (3 * u + 1) c (omega arith) kc))
+          (at_most (3 * u + 0) (3 * u + 0) a (omega arith) ka)
+          (all_both (λ y. 3 * u + 0 ≤ key y) b c (at_least (3 * u + 1) (3 * u + 0) b (omega arith) kb) (at_least (3 * u + 2) (3 * u + 0) c (omega arith) kc)),
       all_both (λ y. 3 * u ≤ key y) a (b ++ c) (at_least (3 * u + 0) (3 * u) a (omega arith) ka)
-        (all_both (λ y. 3 * u ≤ key y) b c (at_least (3 * u + 1) (3 * u) b (omega arith) kb) (at_least (3 * u + 2) (3 * u) c (omega arith) kc)),
+          (all_both (λ y. 3 * u ≤ key y) b c (at_least (3 * u + 1) (3 * u) b (omega arith) kb) (at_least (3 * u + 2) (3 * u) c (omega arith) kc)),
       all_both (λ y. key y ≤ 3 * u + 2) a (b ++ c) (at_most (3 * u + 0) (3 * u + 2) a (omega arith) ka)
-        (all_both (λ y. key y ≤ 3 * u + 2) b c (at_most (3 * u + 1) (3 * u + 2) b (omega arith) kb) (at_most (3 * u + 2) (3 * u + 2) c (omega arith) kc)))
+          (all_both (λ y. key y ≤ 3 * u + 2) b c (at_most (3 * u + 1) (3 * u + 2) b (omega arith) kb) (at_most (3 * u + 2) (3 * u + 2) c (omega arith) kc)),
+    )
 
 parts_rise : (f : ℕ → List Entry) → ((u : ℕ) → Rises (f u) × AllByRecursion (λ x. 3 * u ≤ key x) (f u) × AllByRecursion (λ x. key x ≤ 3 * u + 2) (f u)) → (n : ℕ) →
     Rises (flat_map f (below n)) × AllByRecursion (λ x. key x ≤ 3 * n) (flat_map f (below n))
 parts_rise f h zero = (tt, tt)
 parts_rise f h (suc n) =
     let r = parts_rise f h n in
-    let k = h n in
-    (subst Rises (sym (flat_below-suc f n)) (rises_both (3 * n) (flat_map f (below n)) (f n) r.0 k.0 r.1 k.1),
+    let k = h n in (
+      subst Rises (sym (flat_below-suc f n)) (rises_both (3 * n) (flat_map f (below n)) (f n) r.0 k.0 r.1 k.1),
       subst (AllByRecursion (λ x. key x ≤ 3 * suc n)) (sym (flat_below-suc f n))
-        (all_both (λ x. key x ≤ 3 * suc n) (flat_map f (below n)) (f n) (all_more (λ x. key x ≤ 3 * n) (λ x. key x ≤ 3 * suc n) (flat_map f (below n)) (λ x g. omega (arith, g)) r.1)
-          (all_more (λ x. key x ≤ 3 * n + 2) (λ x. key x ≤ 3 * suc n) (f n) (λ x g. omega (arith, g)) k.2)))
+          (all_both (λ x. key x ≤ 3 * suc n) (flat_map f (below n)) (f n) (all_more (λ x. key x ≤ 3 * n) (λ x. key x ≤ 3 * suc n) (flat_map f (below n)) (λ x g. omega (arith, g)) r.1)
+          (all_more (λ x. key x ≤ 3 * n + 2) (λ x. key x ≤ 3 * suc n) (f n) (λ x g. omega (arith, g)) k.2)),
+    )
 
 cycle_rises : (nodes : ℕ) (p : Plan) → Rises (cycle nodes p)
 unfolding cycle

@@ -1,11 +1,10 @@
 -- The host's calls against the timeline
-use Rattle.std.proofs.Common.{◌≡◌, ℕ, zero, suc, ◌+◌, ◌<◌, ◌≤◌, Bool, true, false, cond, not, eqb, ltb, List, [], ◌∷◌, ◌++◌, refl, sym, ◌∙◌, ap, subst, arith, ◌⊎◌, inl, inr, ⊎_elim}
-use Rattle.std.specs.Prelude.{◌≢◌, Option, Some, None, nat_eq, nat_lt}
-use Rattle.std.proofs.lemmas.Bool.{cond_both, eqb-true, eqb-false}
-use Rattle.runtime_model.specs.HostCalls.{latest_of, rounds_in, HostCall, request_call, next_beacon_call, end_round_call, CallState, call_state, call_step, MayCall, AllMay, waiting_in, PlainHost, host_of, host_after, phase_taken, begun_host, turned_host, after_call}
+use Rattle.std.proofs.Common.{◌≡◌, ℕ, suc, ◌≤◌, Bool, true, false, cond, List, [], ◌∷◌, ◌++◌, refl, sym, ◌∙◌, subst, arith, ◌⊎◌, inl, inr, ⊎_elim}
+use Rattle.std.specs.Prelude.{Option, Some, None, nat_eq, nat_lt}
+use Rattle.std.proofs.lemmas.Bool.{eqb-true, eqb-false}
+use Rattle.runtime_model.specs.HostCalls.{latest_of, rounds_in, HostCall, request_call, next_beacon_call, end_round_call, CallState, call_state, call_step, MayCall, AllMay, PlainHost, host_of, begun_host, turned_host, after_call}
 use Rattle.runtime_model.specs.Laws.{HostsKeepTime}
-use Rattle.runtime_model.specs.Timeline.{PlainPhase, steady, warn, drain, drains, Hyperperiod, Timeline, Mark, asked, begins, ended, timeline_of, untaken, request_in, phase_at_beacon, decided, follows, fresh}
-
+use Rattle.runtime_model.specs.Timeline.{PlainPhase, steady, warn, drain, drains, Hyperperiod, Timeline, begins, ended, timeline_of, untaken, request_in, phase_at_beacon, decided, follows}
 
 -- the last hyperperiod of a list of calls
 abbrev last_of : CallState → Hyperperiod
@@ -24,7 +23,7 @@ line h hs = record { last = h; before = hs }
 abbrev host : ℕ → ℕ → PlainPhase → Bool → Option ℕ → Bool → PlainHost
 host mode r phase opening w i = record { mode = mode; round = r; phase = phase; opening = opening; waiting = w; inside = i }
 
--- ---- the three calls on any timeline_of
+-- ---- the three calls on any timeline
 asks : (r : ℕ) (i : Bool) (m mode : ℕ) (opening : Bool) (phase : PlainPhase) (begun : Bool) (early late : List ℕ) (hs : List Hyperperiod) →
     record (host_of (line (hyp mode opening phase begun early late) hs) r i) { waiting = Some m } ≡ host_of (line (request_in (hyp mode opening phase begun early late) m) hs) r i
 asks r i m mode opening phase true early late hs = refl
@@ -36,13 +35,13 @@ begun_line h hs = line (record h { begun = true; phase = phase_at_beacon h hs })
 -- the phase that the latest request gives, and what waits after it
 decides : (r mode : ℕ) (opening : Bool) (xs : List ℕ) →
     begun_host (host mode r steady opening (latest_of xs) false)
-      ≡ host mode r (decided mode xs) opening (latest_of (cond (drains (decided mode xs)) xs [])) true
+    ≡ host mode r (decided mode xs) opening (latest_of (cond (drains (decided mode xs)) xs [])) true
 decides r mode opening [] = refl
 decides r mode opening (x ∷ xs) = by_test (nat_eq x mode)
   where
     by_test : (b : Bool) →
         host mode r (cond b steady (warn x)) opening None true
-          ≡ host mode r (cond b steady (warn x)) opening (latest_of (cond (drains (cond b steady (warn x))) (x ∷ xs) [])) true
+        ≡ host mode r (cond b steady (warn x)) opening (latest_of (cond (drains (cond b steady (warn x))) (x ∷ xs) [])) true
     by_test true = refl
     by_test false = refl
 
@@ -62,15 +61,15 @@ begins_for : (r : ℕ) (h : Hyperperiod) (hs : List Hyperperiod) (i : Bool) → 
     begun_host (host_of (line h hs) r i) ≡ host_of (begun_line h hs) r true
 begins_for r h hs i i_is b l =
     subst (λ (x : Bool). begun_host (host_of (line h hs) r x) ≡ host_of (begun_line h hs) r true) (sym i_is)
-      (subst (λ (x : Bool). begun_host (host_of (line (hyp h.mode h.opening h.phase x h.early h.late) hs) r false) ≡ host_of (begun_line (hyp h.mode h.opening h.phase x h.early h.late) hs) r true) (sym b)
-        (subst (λ (x : List ℕ). begun_host (host_of (line (hyp h.mode h.opening h.phase false h.early x) hs) r false) ≡ host_of (begun_line (hyp h.mode h.opening h.phase false h.early x) hs) r true) (sym l)
-          (begins_at r h.mode h.opening h.phase h.early hs)))
+    (subst (λ (x : Bool). begun_host (host_of (line (hyp h.mode h.opening h.phase x h.early h.late) hs) r false) ≡ host_of (begun_line (hyp h.mode h.opening h.phase x h.early h.late) hs) r true) (sym b)
+    (subst (λ (x : List ℕ). begun_host (host_of (line (hyp h.mode h.opening h.phase false h.early x) hs) r false) ≡ host_of (begun_line (hyp h.mode h.opening h.phase false h.early x) hs) r true) (sym l)
+    (begins_at r h.mode h.opening h.phase h.early hs)))
 
 ends_for : (r : ℕ) (h : Hyperperiod) (hs : List Hyperperiod) (i : Bool) → h.begun ≡ true →
     turned_host (host_of (line h hs) r i) h.phase ≡ host_of (line (follows h.mode h.phase) (h ∷ hs)) 1 false
 ends_for r h hs i b =
     subst (λ (x : Bool). turned_host (host_of (line (hyp h.mode h.opening h.phase x h.early h.late) hs) r i) h.phase ≡ host_of (line (follows h.mode h.phase) (hyp h.mode h.opening h.phase x h.early h.late ∷ hs)) 1 false) (sym b)
-      (ends_at r h.mode h.opening h.phase h.early h.late hs)
+    (ends_at r h.mode h.opening h.phase h.early h.late hs)
 
 bool_apart : true ≡ false → ⊥
 bool_apart e = grind (arith, e)
@@ -116,7 +115,7 @@ rounds_end : (rounds : List ℕ) (s : CallState) → 1 ≤ s.round → s.inside 
     let t = timeline_of s.marks in
     let n = cond {A = CallState} b (record { marks = s.marks; round = suc s.round; inside = false }) (record { marks = ended ∷ s.marks; round = 1; inside = false }) in
     (cond b (record (host_of t s.round s.inside) { round = suc s.round; inside = false }) (turned_host (host_of t s.round s.inside) t.last.phase) ≡ host_of (timeline_of n.marks) n.round n.inside)
-      × Fits n.round n.inside (timeline_of n.marks).last
+    × Fits n.round n.inside (timeline_of n.marks).last
 rounds_end rounds s one is f true = (refl, inl (inside_fits s.round s.inside (last_of s) is f, inr (λ e. omega (arith, e, one))))
 rounds_end rounds s one is f false = (ends_for s.round (last_of s) (timeline_of s.marks).before s.inside (inside_fits s.round s.inside (last_of s) is f), follows_fits (last_of s).mode (last_of s).phase)
 

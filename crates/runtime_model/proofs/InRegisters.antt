@@ -1,32 +1,32 @@
 -- At a start of run k an in register that is full has a packet of window k
-use Rattle.std.proofs.Common.{◌≡◌, ℕ, zero, suc, ◌+◌, ◌-◌, ◌*◌, ◌/◌, ◌%◌, ◌<◌, ◌≤◌, Bool, true, false, cond, not, eqb, ltb, ◌&&◌, List, [], ◌∷◌, length, get_or, map, Contains, refl, sym, ◌∙◌, ap, subst, arith, ◌⊎◌, inl, inr, ⊎_elim, ℤ, pos, ◌+ℤ◌, ◌≤ℤ◌, ◌<ℤ◌}
+use Rattle.std.proofs.Common.{◌≡◌, ℕ, zero, suc, ◌+◌, ◌*◌, ◌%◌, ◌<◌, ◌≤◌, Bool, true, false, cond, not, ◌&&◌, List, [], ◌∷◌, length, get_or, Contains, refl, sym, ◌∙◌, ap, subst, arith, ◌⊎◌, inl, inr, ⊎_elim, ℤ, pos, ◌+ℤ◌, ◌≤ℤ◌, ◌<ℤ◌}
 use Rattle.std.specs.Prelude.{nat_eq, nat_lt, Option, Some, None}
 use Rattle.std.proofs.lemmas.Int.{ints}
-use Rattle.std.proofs.lemmas.Bool.{cases_Bool, cases_lt, cond-true, cond-false, eqb-true, eq-eqb, and_parts}
+use Rattle.std.proofs.lemmas.Bool.{cases_lt, cond-true, eqb-true, eq-eqb, and_parts}
 use Rattle.sched_model.specs.Numbers.{has, below}
-use Rattle.sched_model.specs.PlainMode.{PlainMode, hyper, task_at, message_at}
-use Rattle.sched_model.specs.Rounds.{round_start, task_start, opens, closes}
+use Rattle.sched_model.specs.PlainMode.{task_at, message_at}
+use Rattle.sched_model.specs.Rounds.{round_start, opens, closes}
 use Rattle.runtime_model.proofs.TaskTimes.{TaskFits}
 use Rattle.runtime_model.specs.Entries.{Entry, Action, task_ends, beacon, slot, task_starts}
-use Rattle.runtime_model.specs.History.{history, step_of, last_spot, next_place, spot_next, entries, entry_at, performed, start_or_not, finished_or_not, sent_or_not}
+use Rattle.runtime_model.specs.History.{history, step_of, last_spot, spot_next, entries, entry_at, performed, start_or_not, finished_or_not, sent_or_not}
 use Rattle.runtime_model.specs.Inputs.{inputs}
 use Rattle.runtime_model.specs.Laws.{InputsHold}
 use Rattle.runtime_model.specs.LookingBack.{recall, or_else, runs, synced}
 use Rattle.runtime_model.specs.Outcomes.{PlainEvent, advance, request, restart, Spot, Step, Outcome, beaconed, sent, silent, started, off, finished, void, requested, restarted, is_beacon, restarts, begun_run, took}
 use Rattle.runtime_model.specs.Packets.{sender_of, packet, held, takes_on, reached}
 use Rattle.runtime_model.specs.Placement.{placed, own_slot, own_start, window_at, run_at, ends_run, ending_run_at}
-use Rattle.runtime_model.specs.Plans.{Plan, offset, node_of, RightPlan, Carried}
-use Rattle.runtime_model.specs.Registers.{last_in, in_register, flat, values_of}
+use Rattle.runtime_model.specs.Plans.{Plan, offset, node_of, RightPlan}
+use Rattle.runtime_model.specs.Registers.{last_in, flat, values_of}
 use Rattle.runtime_model.specs.System.{System, plan_at, body_at, state}
 use Rattle.runtime_model.specs.Timeline.{drains}
 use Rattle.sched_model.proofs.Graph.{message_edge}
-use Rattle.runtime_model.proofs.Cycles.{none, entry_right, RightAt, rank}
-use Rattle.runtime_model.proofs.Spots.{Same, Within, Opens, Moves, moves, stands}
-use Rattle.runtime_model.proofs.Registers.{cond_some, or_cases, found_again, found_now, recall_stay, still_runs}
-use Rattle.runtime_model.proofs.Instances.{same_class, due_class, later_runs, first_runs}
+use Rattle.runtime_model.proofs.Cycles.{none, entry_right, RightAt}
+use Rattle.runtime_model.proofs.Spots.{moves, stands}
+use Rattle.runtime_model.proofs.Registers.{cond_some, or_cases, recall_stay, still_runs}
+use Rattle.runtime_model.proofs.Instances.{same_class, due_class, later_runs}
 use Rattle.runtime_model.proofs.Slots.{none_step, some_step}
 use Rattle.runtime_model.proofs.Once.{start_once}
-use Rattle.runtime_model.proofs.Times.{natural_is, offset_is, task_fits, SlotWindow, slot_window, round_from_zero, slot_carried}
+use Rattle.runtime_model.proofs.Times.{natural_is, offset_is, task_fits, slot_window, round_from_zero, slot_carried}
 use Rattle.runtime_model.proofs.OutRegisters.{in_cycle, Is, H, P, BeforeSpot, Before, Released, step_back, step_on, same_mode, released_back, time_order, time_before, turns_apart, index_fits, performed_is, start_place, is_placed, not_both, split_before, start_is_quiet, both_true, run_is}
 
 calm : (b d : Bool) → (b ≡ true → d ≡ false) → d ≡ true → b ≡ false
@@ -52,9 +52,12 @@ sent_is y p s lost ds u (slot j m) v b i l xs e = by_packet (packet p s j m ds) 
         let c = cond_some {X = Option (ℕ × List ℤ)} (nat_eq m i && has t v) (Some (Some (window_at p s.turn j m, ys))) (Some (l, xs)) e in
         let same = eqb-true m i (and_parts (nat_eq m i) (has t v) c.0).0 in
         let g = cond_some (placed s.hyper.opening s.hyper.phase (own_slot p j m) && synced (sender_of p m) ds) (held p s.stay m (window_at p s.turn j m) ds) ys h in
-        let q : (window_at p s.turn j m, ys) ≡ (l, xs) = grind (arith, c.1) in
-        (j, ap (slot j) same, subst (λ z. placed s.hyper.opening s.hyper.phase (own_slot p j z) ≡ true) same (and_parts (placed s.hyper.opening s.hyper.phase (own_slot p j m)) (synced (sender_of p m) ds) g.0).0,
-          sym (ap (λ (z : ℕ × List ℤ). z.0) q) ∙ ap (window_at p s.turn j) same)
+        let q : (window_at p s.turn j m, ys) ≡ (l, xs) = grind (arith, c.1) in (
+          j,
+          ap (slot j) same,
+          subst (λ z. placed s.hyper.opening s.hyper.phase (own_slot p j z) ≡ true) same (and_parts (placed s.hyper.opening s.hyper.phase (own_slot p j m)) (synced (sender_of p m) ds) g.0).0,
+          sym (ap (λ (z : ℕ × List ℤ). z.0) q) ∙ ap (window_at p s.turn j) same,
+        )
 sent_is y p s lost ds u (task_starts c) v b i l xs e = absurd (not_started (placed s.hyper.opening s.hyper.phase (own_start p u c) && runs (node_of p c) ds) e)
   where
     not_started : (o : Bool) → last_in v b i (start_or_not y p s ds c u o) ≡ Some (Some (l, xs)) → ⊥
@@ -80,7 +83,7 @@ took_in v b i k xs (sent w j l ys ts) e =
     let a' = and_parts (nat_eq l k) (has ts v) a.1 in
     let q : ys ≡ xs = grind (arith, c.1) in
     cond-true {A = Option (Option (ℕ × List ℤ))} (nat_eq j i && has ts v) (Some (Some (l, ys))) None (both_true (nat_eq j i) (has ts v) a.0 a'.1)
-      ∙ ap (λ (z : ℕ). Some (Some (z, ys))) (eqb-true l k a'.0) ∙ ap (λ (z : List ℤ). Some (Some (k, z))) q
+    ∙ ap (λ (z : ℕ). Some (Some (z, ys))) (eqb-true l k a'.0) ∙ ap (λ (z : List ℤ). Some (Some (k, z))) q
 took_in v b i k xs (beaconed q hs) e = absurd (grind (arith, e))
 took_in v b i k xs (silent j) e = absurd (grind (arith, e))
 took_in v b i k xs (started w c l ins z) e = absurd (grind (arith, e))
@@ -96,7 +99,7 @@ in_took v b i k xs (sent w j l ys ts) e =
     let a = and_parts (nat_eq j i) (has ts v) c.0 in
     let q : (l, ys) ≡ (k, xs) = grind (arith, c.1) in
     cond-true (nat_eq j i && (nat_eq l k && has ts v)) (Some ys) None (both_true (nat_eq j i) (nat_eq l k && has ts v) a.0 (both_true (nat_eq l k) (has ts v) (eq-eqb l k (ap (λ (z : ℕ × List ℤ). z.0) q)) a.1))
-      ∙ ap (λ (z : ℕ × List ℤ). Some z.1) q
+    ∙ ap (λ (z : ℕ × List ℤ). Some z.1) q
 in_took v b i k xs (beaconed q hs) e = absurd (grind (arith, e))
 in_took v b i k xs (silent j) e = absurd (grind (arith, e))
 in_took v b i k xs (started w c l ins z) e = absurd (not_full (nat_eq c b) e)
@@ -189,7 +192,8 @@ module _ (y : System) (md b i : ℕ) (ok : RightPlan y.nodes (plan_at y md)) (il
       let per = ap (λ z. l * z) (ok.valid.consumer_app i b il to).0 in
       let num = ap (λ z. z * (message_at p.mode i).period) f.3 in
       record {
-        round = f.0; tick = g.tick;
+        round = f.0;
+        tick = g.tick;
         is = (fits, ap (λ (w : Action). record { tick = g.tick; action = w }) f.1);
         after = omega (arith, ints, w.after, at, at', per, num);
         before = omega (arith, ints, w.before, at, at', per, num, ok.valid.round);
@@ -241,23 +245,23 @@ module _ (y : System) (md b i : ℕ) (ok : RightPlan y.nodes (plan_at y md)) (il
       let c = cond_some (runs v (d ∷ ds) && nat_eq s.stay st) (or_else (last_in v b i d.out) (recall v st (last_in v b i) ds)) (Some (l, xs)) e in
       let both = and_parts (runs v (d ∷ ds)) (nat_eq s.stay st) c.0 in
       ⊎_elim
-        (λ (hit : last_in v b i d.out ≡ Some (Some (l, xs))).
-          let f = filled es lost v l xs m hit in
-          let o = offset_is y.nodes p ok b consumer in
-          let late : s.turn * H y md + f.tick < n * H y md + u = omega (arith, ints, f.before, (ok.right.s4 i il).taken b to, o, ap (λ (z : ℕ). pos z) t) in
-          absurd (not_both n s.turn j s.index before (time_order y md s.turn s.index f.tick n j u (slot f.round i) (task_starts b) f.is is (omega (arith, late)))))
-        (λ (miss : (last_in v b i d.out ≡ None) × (recall v st (last_in v b i) ds ≡ Some (Some (l, xs)))).
-          let same = eqb-true s.stay st both.1 ∙ sym (recall_stay v st (last_in v b i) ds (Some (l, xs)) miss.1) in
-          let mode_ds = same_mode y ds s mv same ∙ m in
-          ⊎_elim
-            (λ (at : (n ≡ s.turn) × (j ≡ s.index)).
-              let w = start_performed es lost u l m (subst (λ z. Is y md z u (task_starts b)) at.1 is) (subst (λ z. z * H y md + u ≡ offset p b + l * P p b) at.0 t) r both.0 in
-              let says = ap (last_in v b i) w.3 ∙ cond-true {A = Option (Option (ℕ × List ℤ))} (nat_eq b b) (Some None) None (eq-eqb b b refl) in
-              absurd (emptied (last_in v b i d.out) miss.0 says))
-            (λ (earlier : BeforeSpot s n j).
-              no_start_before es st n j u l xs mode_ds miss.1 is t (step_back y ds s n j mv same (subst (λ (z : ℕ). j < length (entries y z)) (sym mode_ds) is.0) earlier) (released_back y p ds s (l * P p b) mv same r))
-            (split_before n s.turn j s.index before))
-        (or_cases (last_in v b i d.out) (recall v st (last_in v b i) ds) (Some (l, xs)) c.1)
+      (λ (hit : last_in v b i d.out ≡ Some (Some (l, xs))).
+      let f = filled es lost v l xs m hit in
+      let o = offset_is y.nodes p ok b consumer in
+      let late : s.turn * H y md + f.tick < n * H y md + u = omega (arith, ints, f.before, (ok.right.s4 i il).taken b to, o, ap (λ (z : ℕ). pos z) t) in
+      absurd (not_both n s.turn j s.index before (time_order y md s.turn s.index f.tick n j u (slot f.round i) (task_starts b) f.is is (omega (arith, late)))))
+      (λ (miss : (last_in v b i d.out ≡ None) × (recall v st (last_in v b i) ds ≡ Some (Some (l, xs)))).
+      let same = eqb-true s.stay st both.1 ∙ sym (recall_stay v st (last_in v b i) ds (Some (l, xs)) miss.1) in
+      let mode_ds = same_mode y ds s mv same ∙ m in
+      ⊎_elim
+      (λ (at : (n ≡ s.turn) × (j ≡ s.index)).
+      let w = start_performed es lost u l m (subst (λ z. Is y md z u (task_starts b)) at.1 is) (subst (λ z. z * H y md + u ≡ offset p b + l * P p b) at.0 t) r both.0 in
+      let says = ap (last_in v b i) w.3 ∙ cond-true {A = Option (Option (ℕ × List ℤ))} (nat_eq b b) (Some None) None (eq-eqb b b refl) in
+      absurd (emptied (last_in v b i d.out) miss.0 says))
+      (λ (earlier : BeforeSpot s n j).
+      no_start_before es st n j u l xs mode_ds miss.1 is t (step_back y ds s n j mv same (subst (λ (z : ℕ). j < length (entries y z)) (sym mode_ds) is.0) earlier) (released_back y p ds s (l * P p b) mv same r))
+      (split_before n s.turn j s.index before))
+      (or_cases (last_in v b i d.out) (recall v st (last_in v b i) ds) (Some (l, xs)) c.1)
 
   -- the packet that filled the register is past
   filled_was : (es : List PlainEvent) (st v l : ℕ) (xs : List ℤ) → (last_spot (history y es)).hyper.mode ≡ md → recall v st (last_in v b i) (history y es) ≡ Some (Some (l, xs)) →
@@ -274,12 +278,12 @@ module _ (y : System) (md b i : ℕ) (ok : RightPlan y.nodes (plan_at y md)) (il
       let mv = moves y ds (stands y es) in
       let c = cond_some (runs v (d ∷ ds) && nat_eq s.stay st) (or_else (last_in v b i d.out) (recall v st (last_in v b i) ds)) (Some (l, xs)) e in
       ⊎_elim
-        (λ (hit : last_in v b i d.out ≡ Some (Some (l, xs))). (s.turn, s.index, filled es lost v l xs m hit, inr (refl, omega arith)))
-        (λ (miss : (last_in v b i d.out ≡ None) × (recall v st (last_in v b i) ds ≡ Some (Some (l, xs)))).
-          let same = eqb-true s.stay st (and_parts (runs v (d ∷ ds)) (nat_eq s.stay st) c.0).1 ∙ sym (recall_stay v st (last_in v b i) ds (Some (l, xs)) miss.1) in
-          let w = filled_was es st v l xs (same_mode y ds s mv same ∙ m) miss.1 in
-          (w.0, w.1, w.2, ⊎_elim (λ (q : w.0 < s.turn). inl q) (λ (q : (w.0 ≡ s.turn) × (w.1 < s.index)). inr (q.0, omega (arith, q.1))) (step_on y ds s w.0 w.1 mv same w.3)))
-        (or_cases (last_in v b i d.out) (recall v st (last_in v b i) ds) (Some (l, xs)) c.1)
+      (λ (hit : last_in v b i d.out ≡ Some (Some (l, xs))). (s.turn, s.index, filled es lost v l xs m hit, inr (refl, omega arith)))
+      (λ (miss : (last_in v b i d.out ≡ None) × (recall v st (last_in v b i) ds ≡ Some (Some (l, xs)))).
+      let same = eqb-true s.stay st (and_parts (runs v (d ∷ ds)) (nat_eq s.stay st) c.0).1 ∙ sym (recall_stay v st (last_in v b i) ds (Some (l, xs)) miss.1) in
+      let w = filled_was es st v l xs (same_mode y ds s mv same ∙ m) miss.1 in
+      (w.0, w.1, w.2, ⊎_elim (λ (q : w.0 < s.turn). inl q) (λ (q : (w.0 ≡ s.turn) × (w.1 < s.index)). inr (q.0, omega (arith, q.1))) (step_on y ds s w.0 w.1 mv same w.3)))
+      (or_cases (last_in v b i d.out) (recall v st (last_in v b i) ds) (Some (l, xs)) c.1)
 
   -- at a start of run k a full register is of window k
   full_is_own : (es : List PlainEvent) (u k l : ℕ) (xs : List ℤ) → (spot_next y (history y es)).hyper.mode ≡ md → Is y md (spot_next y (history y es)).index u (task_starts b) →
@@ -294,31 +298,31 @@ module _ (y : System) (md b i : ℕ) (ok : RightPlan y.nodes (plan_at y md)) (il
       let same = sym (recall_stay v s.stay (last_in v b i) ds (Some (l, xs)) e) in
       let mode_ds = same_mode y ds s mv same ∙ m in
       ⊎_elim
-        (λ (early : l < k).
-          let w = start_place y md b fit l in
-          let gap = turns_apart (P p b) l k early in
-          let first = time_order y md w.0 w.1 w.2 s.turn s.index u (task_starts b) (task_starts b) w.3 is (omega (arith, w.4, t, gap, fit.period)) in
-          absurd (no_start_before es s.stay w.0 w.1 w.2 l xs mode_ds e w.3 w.4 (step_back y ds s w.0 w.1 mv same (subst (λ (z : ℕ). w.1 < length (entries y z)) (sym mode_ds) w.3.0) first)
-            (released_back y p ds s (l * P p b) mv same (λ d. omega (arith, r d, gap)))))
-        (λ (late : k ≤ l).
-          let f = filled_was es s.stay v l xs mode_ds e in
-          let before = time_before y md f.0 f.1 f.2.tick s.turn s.index u (slot f.2.round i) (task_starts b) f.2.is is (step_on y ds s f.0 f.1 mv same f.3) in
-          let o = offset_is y.nodes p ok b consumer in
-          ⊎_elim
-            (λ (more : k < l). absurd (omega (arith, ints, before, f.2.after, t, o, (ok.right.s4 i il).next b to, turns_apart (P p b) k l more, (ok.valid.consumer_app i b il to).0)))
-            (λ (le : l ≤ k). omega (arith, late, le))
-            (cases_lt k l))
-        (cases_lt l k)
+      (λ (early : l < k).
+      let w = start_place y md b fit l in
+      let gap = turns_apart (P p b) l k early in
+      let first = time_order y md w.0 w.1 w.2 s.turn s.index u (task_starts b) (task_starts b) w.3 is (omega (arith, w.4, t, gap, fit.period)) in
+      absurd (no_start_before es s.stay w.0 w.1 w.2 l xs mode_ds e w.3 w.4 (step_back y ds s w.0 w.1 mv same (subst (λ (z : ℕ). w.1 < length (entries y z)) (sym mode_ds) w.3.0) first)
+      (released_back y p ds s (l * P p b) mv same (λ d. omega (arith, r d, gap)))))
+      (λ (late : k ≤ l).
+      let f = filled_was es s.stay v l xs mode_ds e in
+      let before = time_before y md f.0 f.1 f.2.tick s.turn s.index u (slot f.2.round i) (task_starts b) f.2.is is (step_on y ds s f.0 f.1 mv same f.3) in
+      let o = offset_is y.nodes p ok b consumer in
+      ⊎_elim
+      (λ (more : k < l). absurd (omega (arith, ints, before, f.2.after, t, o, (ok.right.s4 i il).next b to, turns_apart (P p b) k l more, (ok.valid.consumer_app i b il to).0)))
+      (λ (le : l ≤ k). omega (arith, late, le))
+      (cases_lt k l))
+      (cases_lt l k)
 
   -- a start at one time is at one place
   one_start : (n m j g t u : ℕ) → Is y md j t (task_starts b) → Is y md g u (task_starts b) → n * H y md + t ≡ m * H y md + u → (n < m) ⊎ (n ≡ m) × (j < g) → ⊥
   one_start n m j g t u is is' e l =
       ⊎_elim
-        (λ (h : n < m). omega (arith, turns_apart (H y md) n m h, in_cycle y md j t (task_starts b) is, e))
-        (λ (h : (n ≡ m) × (j < g)).
-          let same : t ≡ u = omega (arith, e, ap (λ z. z * H y md) h.0) in
-          omega (arith, h.1, start_once y.nodes (plan_at y md) u b j g is.0 is'.0 (is.1 ∙ ap (λ z. record { tick = z; action = task_starts b }) same) is'.1))
-        l
+      (λ (h : n < m). omega (arith, turns_apart (H y md) n m h, in_cycle y md j t (task_starts b) is, e))
+      (λ (h : (n ≡ m) × (j < g)).
+      let same : t ≡ u = omega (arith, e, ap (λ z. z * H y md) h.0) in
+      omega (arith, h.1, start_once y.nodes (plan_at y md) u b j g is.0 is'.0 (is.1 ∙ ap (λ z. record { tick = z; action = task_starts b }) same) is'.1))
+      l
 
   -- a packet that was taken is past
   took_was : (es : List PlainEvent) (st v k : ℕ) (xs : List ℤ) → (last_spot (history y es)).hyper.mode ≡ md → recall v st (took v i k) (history y es) ≡ Some xs →
@@ -335,12 +339,12 @@ module _ (y : System) (md b i : ℕ) (ok : RightPlan y.nodes (plan_at y md)) (il
       let mv = moves y ds (stands y es) in
       let c = cond_some (runs v (d ∷ ds) && nat_eq s.stay st) (or_else (took v i k d.out) (recall v st (took v i k) ds)) xs e in
       ⊎_elim
-        (λ (hit : took v i k d.out ≡ Some xs). (s.turn, s.index, filled es lost v k xs m (took_in v b i k xs d.out hit), inr (refl, omega arith)))
-        (λ (miss : (took v i k d.out ≡ None) × (recall v st (took v i k) ds ≡ Some xs)).
-          let same = eqb-true s.stay st (and_parts (runs v (d ∷ ds)) (nat_eq s.stay st) c.0).1 ∙ sym (recall_stay v st (took v i k) ds xs miss.1) in
-          let w = took_was es st v k xs (same_mode y ds s mv same ∙ m) miss.1 in
-          (w.0, w.1, w.2, ⊎_elim (λ (q : w.0 < s.turn). inl q) (λ (q : (w.0 ≡ s.turn) × (w.1 < s.index)). inr (q.0, omega (arith, q.1))) (step_on y ds s w.0 w.1 mv same w.3)))
-        (or_cases (took v i k d.out) (recall v st (took v i k) ds) xs c.1)
+      (λ (hit : took v i k d.out ≡ Some xs). (s.turn, s.index, filled es lost v k xs m (took_in v b i k xs d.out hit), inr (refl, omega arith)))
+      (λ (miss : (took v i k d.out ≡ None) × (recall v st (took v i k) ds ≡ Some xs)).
+      let same = eqb-true s.stay st (and_parts (runs v (d ∷ ds)) (nat_eq s.stay st) c.0).1 ∙ sym (recall_stay v st (took v i k) ds xs miss.1) in
+      let w = took_was es st v k xs (same_mode y ds s mv same ∙ m) miss.1 in
+      (w.0, w.1, w.2, ⊎_elim (λ (q : w.0 < s.turn). inl q) (λ (q : (w.0 ≡ s.turn) × (w.1 < s.index)). inr (q.0, omega (arith, q.1))) (step_on y ds s w.0 w.1 mv same w.3)))
+      (or_cases (took v i k d.out) (recall v st (took v i k) ds) xs c.1)
 
   -- two starts of the task are whole periods apart
   periods_apart : (n j u m g t : ℕ) → Is y md j u (task_starts b) → Is y md g t (task_starts b) → n * H y md + u < m * H y md + t → n * H y md + u + P (plan_at y md) b ≤ m * H y md + t
@@ -373,36 +377,36 @@ module _ (y : System) (md b i : ℕ) (ok : RightPlan y.nodes (plan_at y md)) (il
       let c = cond_some (runs v (d ∷ ds) && nat_eq s.stay st) (or_else (last_in v b i d.out) (recall v st (last_in v b i) ds)) None e in
       let c' = cond_some (runs v (d ∷ ds) && nat_eq s.stay st) (or_else (took v i k d.out) (recall v st (took v i k) ds)) xs f in
       ⊎_elim
-        (λ (hit' : took v i k d.out ≡ Some xs).
-          let full = took_in v b i k xs d.out hit' in
-          ⊎_elim
-            (λ (hit : last_in v b i d.out ≡ Some None). emptied_full (last_in v b i d.out) hit full)
-            (λ (miss : (last_in v b i d.out ≡ None) × (recall v st (last_in v b i) ds ≡ Some None)). absurd (let q = sym miss.0 ∙ full in grind (arith, q)))
-            (or_cases (last_in v b i d.out) (recall v st (last_in v b i) ds) None c.1))
-        (λ (miss' : (took v i k d.out ≡ None) × (recall v st (took v i k) ds ≡ Some xs)).
-          let same = eqb-true s.stay st (and_parts (runs v (d ∷ ds)) (nat_eq s.stay st) c.0).1 ∙ sym (recall_stay v st (took v i k) ds xs miss'.1) in
-          let mode_ds = same_mode y ds s mv same ∙ m in
-          ⊎_elim
-            (λ (hit : last_in v b i d.out ≡ Some None).
-              let fits = index_fits y md b fit some ds s mv m in
-              let h = get_or (entries y md) s.index none in
-              let e' = subst (λ (z : ℕ). last_in v b i (performed y (plan_at y z) s lost ds (get_or (entries y z) s.index none).tick (get_or (entries y z) s.index none).action) ≡ Some None) m hit in
-              let here : Is y md s.index h.tick (task_starts b) = (fits, ap (λ (w : Action). record { tick = h.tick; action = w }) (start_is y p s lost ds h.tick h.action v b i e')) in
-              let w = took_was es st v k xs mode_ds miss'.1 in
-              let after = time_before y md w.0 w.1 w.2.tick s.turn s.index h.tick (slot w.2.round i) (task_starts b) w.2.is here (step_on y ds s w.0 w.1 mv same w.3) in
-              let now = bound s.turn s.index (inr (refl, omega arith)) in
-              let late = time_before y md s.turn s.index h.tick n g u (task_starts b) (task_starts b) here is now in
-              let o = offset_is y.nodes p ok b consumer in
-              ⊎_elim
-                (λ (l : s.turn * H y md + h.tick < n * H y md + u).
-                  let gap = periods_apart s.turn s.index h.tick n g u here is l in
-                  absurd (omega (arith, ints, gap, after, w.2.after, t, o, (ok.right.s4 i il).next b to, (ok.valid.consumer_app i b il to).0)))
-                (λ (l : n * H y md + u ≤ s.turn * H y md + h.tick). one_start s.turn n s.index g h.tick u here is (omega (arith, late, l)) now)
-                (cases_lt (s.turn * H y md + h.tick) (n * H y md + u)))
-            (λ (miss : (last_in v b i d.out ≡ None) × (recall v st (last_in v b i) ds ≡ Some None)).
-              none_since_start es st v k n g u xs mode_ds miss.1 miss'.1 is t (λ a j before. bound a j (⊎_elim (λ (q : a < s.turn). inl q) (λ (q : (a ≡ s.turn) × (j < s.index)). inr (q.0, omega (arith, q.1))) (step_on y ds s a j mv same before))))
-            (or_cases (last_in v b i d.out) (recall v st (last_in v b i) ds) None c.1))
-        (or_cases (took v i k d.out) (recall v st (took v i k) ds) xs c'.1)
+      (λ (hit' : took v i k d.out ≡ Some xs).
+      let full = took_in v b i k xs d.out hit' in
+      ⊎_elim
+      (λ (hit : last_in v b i d.out ≡ Some None). emptied_full (last_in v b i d.out) hit full)
+      (λ (miss : (last_in v b i d.out ≡ None) × (recall v st (last_in v b i) ds ≡ Some None)). absurd (let q = sym miss.0 ∙ full in grind (arith, q)))
+      (or_cases (last_in v b i d.out) (recall v st (last_in v b i) ds) None c.1))
+      (λ (miss' : (took v i k d.out ≡ None) × (recall v st (took v i k) ds ≡ Some xs)).
+      let same = eqb-true s.stay st (and_parts (runs v (d ∷ ds)) (nat_eq s.stay st) c.0).1 ∙ sym (recall_stay v st (took v i k) ds xs miss'.1) in
+      let mode_ds = same_mode y ds s mv same ∙ m in
+      ⊎_elim
+      (λ (hit : last_in v b i d.out ≡ Some None).
+      let fits = index_fits y md b fit some ds s mv m in
+      let h = get_or (entries y md) s.index none in
+      let e' = subst (λ (z : ℕ). last_in v b i (performed y (plan_at y z) s lost ds (get_or (entries y z) s.index none).tick (get_or (entries y z) s.index none).action) ≡ Some None) m hit in
+      let here : Is y md s.index h.tick (task_starts b) = (fits, ap (λ (w : Action). record { tick = h.tick; action = w }) (start_is y p s lost ds h.tick h.action v b i e')) in
+      let w = took_was es st v k xs mode_ds miss'.1 in
+      let after = time_before y md w.0 w.1 w.2.tick s.turn s.index h.tick (slot w.2.round i) (task_starts b) w.2.is here (step_on y ds s w.0 w.1 mv same w.3) in
+      let now = bound s.turn s.index (inr (refl, omega arith)) in
+      let late = time_before y md s.turn s.index h.tick n g u (task_starts b) (task_starts b) here is now in
+      let o = offset_is y.nodes p ok b consumer in
+      ⊎_elim
+      (λ (l : s.turn * H y md + h.tick < n * H y md + u).
+      let gap = periods_apart s.turn s.index h.tick n g u here is l in
+      absurd (omega (arith, ints, gap, after, w.2.after, t, o, (ok.right.s4 i il).next b to, (ok.valid.consumer_app i b il to).0)))
+      (λ (l : n * H y md + u ≤ s.turn * H y md + h.tick). one_start s.turn n s.index g h.tick u here is (omega (arith, late, l)) now)
+      (cases_lt (s.turn * H y md + h.tick) (n * H y md + u)))
+      (λ (miss : (last_in v b i d.out ≡ None) × (recall v st (last_in v b i) ds ≡ Some None)).
+      none_since_start es st v k n g u xs mode_ds miss.1 miss'.1 is t (λ a j before. bound a j (⊎_elim (λ (q : a < s.turn). inl q) (λ (q : (a ≡ s.turn) × (j < s.index)). inr (q.0, omega (arith, q.1))) (step_on y ds s a j mv same before))))
+      (or_cases (last_in v b i d.out) (recall v st (last_in v b i) ds) None c.1))
+      (or_cases (took v i k d.out) (recall v st (took v i k) ds) xs c'.1)
 
 -- ---- the time of a placed start
 own_late : (m n : ℕ) → not (nat_lt m n) ≡ true → n ≤ m
@@ -422,12 +426,13 @@ drain_own true o d x b h = absurd cc
 drain_own false o false d b h = absurd cc
 
 module _ (y : System) (md b : ℕ) (fit : TaskFits y.nodes (plan_at y md) b) where
-  start_time : (s : Spot) (u : ℕ) → Is y md s.index u (task_starts b) → s.hyper.opening ≡ nat_eq s.turn 0 → placed s.hyper.opening s.hyper.phase (own_start (plan_at y md) u b) ≡ true →
+  pub start_time : (s : Spot) (u : ℕ) → Is y md s.index u (task_starts b) → s.hyper.opening ≡ nat_eq s.turn 0 → placed s.hyper.opening s.hyper.phase (own_start (plan_at y md) u b) ≡ true →
       (k : ℕ) × (s.turn * H y md + u ≡ offset (plan_at y md) b + k * P (plan_at y md) b)
   start_time s u is op pl = by_turn s.turn refl
     where
       due : offset (plan_at y md) b % P (plan_at y md) b ≡ u % P (plan_at y md) b
       due = eqb-true (offset (plan_at y md) b % P (plan_at y md) b) (u % P (plan_at y md) b) ((subst (λ (x : Entry). RightAt (plan_at y md) x.tick x.action) is.1 (entry_right y.nodes (plan_at y md) s.index is.0).1).1)
+
       by_turn : (n : ℕ) → s.turn ≡ n → (k : ℕ) × (s.turn * H y md + u ≡ offset (plan_at y md) b + k * P (plan_at y md) b)
       by_turn zero z =
           let own = opening_own s.hyper.opening (own_start (plan_at y md) u b) (drains s.hyper.phase) (op ∙ eq-eqb s.turn 0 z) pl in
@@ -452,7 +457,7 @@ inputs_hold y es b i ok to il here pl =
     let k_is = run_is y md b f s.turn u w.0 w.1 in
     let t : s.turn * H y md + u ≡ offset p b + k * P p b = w.1 ∙ ap (λ z. offset p b + z * P p b) (sym k_is) in
     let r : Released p s (k * P p b) = λ d. let shut = calm s.hyper.opening (drains s.hyper.phase) now.opening d in
-      let early = own_early u (offset p b) (drain_own s.hyper.opening (own_start p u b) (drains s.hyper.phase) d shut pl) in omega (arith, early, t) in
+    let early = own_early u (offset p b) (drain_own s.hyper.opening (own_start p u b) (drains s.hyper.phase) d shut pl) in omega (arith, early, t) in
     by_case y es b i ok to il k u is t r (recall v s.stay (last_in v b i) ds) refl
   where
     by_case : (y : System) (es : List PlainEvent) (b i : ℕ) (ok : RightPlan y.nodes (plan_at y (spot_next y (history y es)).hyper.mode)) (to : Contains (message_at (plan_at y (spot_next y (history y es)).hyper.mode).mode i).to b) (il : i < length (plan_at y (spot_next y (history y es)).hyper.mode).mode.messages) (k u : ℕ) →

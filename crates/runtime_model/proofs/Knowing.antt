@@ -1,17 +1,16 @@
 -- A running node knows whether its hyperperiod opens or drains
-use Rattle.std.proofs.Common.{◌≡◌, ℕ, zero, suc, Bool, true, false, cond, not, ◌&&◌, List, [], ◌∷◌, ◌++◌, refl, sym, ◌∙◌, ap, subst, arith, ◌⊎◌, inl, inr, ⊎_elim}
+use Rattle.std.proofs.Common.{◌≡◌, ℕ, Bool, true, false, cond, not, ◌&&◌, List, [], ◌∷◌, ◌++◌, refl, sym, ◌∙◌, ap, arith, ◌⊎◌, inl, inr, ⊎_elim}
 use Rattle.std.specs.Prelude.{nat_eq}
-use Rattle.std.proofs.lemmas.Bool.{cases_Bool, cond-true, cond-false, eqb-true, eqb-false, eq-eqb, and_parts}
-use Rattle.std.proofs.Common.{length, get_or}
-use Rattle.runtime_model.specs.Entries.{Entry, Action, beacon, task_ends, slot, task_starts}
+use Rattle.std.proofs.lemmas.Bool.{cases_Bool, eqb-true, eqb-false}
+use Rattle.std.proofs.Common.{get_or}
+use Rattle.runtime_model.specs.Entries.{Action, beacon, task_ends, slot, task_starts}
 use Rattle.runtime_model.specs.History.{history, step_of, last_spot, next_place, marks_of, turns, arrival, marks_next, spot_next, entries, entry_at, is_first_beacon, performed, turned}
-use Rattle.runtime_model.specs.LookingBack.{settled, synced, coasts}
-use Rattle.runtime_model.specs.Outcomes.{PlainEvent, advance, request, restart, Spot, Step, Outcome, beaconed, is_beacon, hears, restarts, announces, names_other}
-use Rattle.runtime_model.specs.Plans.{Plan}
+use Rattle.runtime_model.specs.LookingBack.{settled}
+use Rattle.runtime_model.specs.Outcomes.{PlainEvent, advance, request, restart, Step, is_beacon, hears, restarts, announces, names_other}
 use Rattle.runtime_model.specs.System.{System, plan_at}
-use Rattle.runtime_model.specs.Timeline.{PlainPhase, steady, warn, drain, drains, Hyperperiod, Timeline, Mark, asked, begins, ended, timeline_of, untaken, request_in, phase_at_beacon, decided, follows, fresh, named}
+use Rattle.runtime_model.specs.Timeline.{PlainPhase, steady, warn, drain, drains, Hyperperiod, Mark, asked, begins, ended, timeline_of, untaken, request_in, decided, follows, named}
 use Rattle.runtime_model.proofs.Cycles.{none}
-use Rattle.runtime_model.proofs.Spots.{Same, Within, Opens, Moves, moves, stands}
+use Rattle.runtime_model.proofs.Spots.{Same, Within, Opens, moves, stands}
 use Rattle.runtime_model.proofs.Beacons.{outcome_is, seen_entry}
 use Rattle.runtime_model.specs.Script.{opens_round}
 
@@ -39,6 +38,7 @@ follows_names mode (warn m) f e = absurd (not_warn m (f e))
     warns : PlainPhase → Bool
     warns (warn m) = true
     warns p = false
+
     not_warn : (m : ℕ) → warn m ≡ steady → ⊥
     not_warn m e = grind (arith, e)
 follows_names mode (drain m) f e = refl
@@ -86,20 +86,20 @@ phase_stands y (advance lost ∷ es) = refl
 steady_follows : (mode : ℕ) (phase : PlainPhase) → phase ≡ steady → (follows mode phase).phase ≡ steady
 steady_follows mode phase e = ap (λ (p : PlainPhase). (follows mode p).phase) e
 
--- an Advance that is no first beacon leaves a steady timeline_of steady
+-- an Advance that is no first beacon leaves a steady timeline steady
 steady_with : (ms : List Mark) (b c : Bool) → b ≡ false → (timeline_of ms).last.phase ≡ steady → (timeline_of ((cond b (begins ∷ []) [] ++ cond c (ended ∷ []) []) ++ ms)).last.phase ≡ steady
 steady_with ms true c e h = absurd cc
 steady_with ms false true e h = steady_follows (timeline_of ms).last.mode (timeline_of ms).last.phase h
 steady_with ms false false e h = h
 
-arrival_mode : (y : System) (ds : List Step) (b c : Bool) →
+pub arrival_mode : (y : System) (ds : List Step) (b c : Bool) →
     (timeline_of ((cond b (begins ∷ []) [] ++ cond c (ended ∷ []) []) ++ marks_of ds)).last.mode ≡ (cond c (turned y (last_spot ds) (ended ∷ marks_of ds)) (record { hyper = (timeline_of (marks_of ds)).last; stay = (last_spot ds).stay; turn = (last_spot ds).turn; begin = (last_spot ds).begin; index = next_place ds })).hyper.mode
 arrival_mode y ds true true = refl
 arrival_mode y ds true false = refl
 arrival_mode y ds false true = refl
 arrival_mode y ds false false = refl
 
-first_is : (w : Action) → opens_round w ≡ false → is_first_beacon w ≡ false
+pub first_is : (w : Action) → opens_round w ≡ false → is_first_beacon w ≡ false
 first_is (task_ends a) e = refl
 first_is (beacon j) e = absurd cc
 first_is (slot j i) e = refl
@@ -129,9 +129,9 @@ settled_steady y v (advance lost ∷ es) e =
     let ds = history y es in
     let d = step_of y (advance lost) ds in
     ⊎_elim
-      (λ (opens_round : is_beacon d.out ≡ true). quiet_is_steady y ds lost opens_round (calm (restarts v d.out) (is_beacon d.out) (hears v d.out) (announces d) (settled v ds) opens_round e))
-      (λ (opens_round : is_beacon d.out ≡ false). steady_next y es lost opens_round (settled_steady y v es (still (restarts v d.out) (is_beacon d.out) (hears v d.out && not (announces d)) (settled v ds) opens_round e)))
-      (cases_Bool (is_beacon d.out))
+    (λ (opens_round : is_beacon d.out ≡ true). quiet_is_steady y ds lost opens_round (calm (restarts v d.out) (is_beacon d.out) (hears v d.out) (announces d) (settled v ds) opens_round e))
+    (λ (opens_round : is_beacon d.out ≡ false). steady_next y es lost opens_round (settled_steady y v es (still (restarts v d.out) (is_beacon d.out) (hears v d.out && not (announces d)) (settled v ds) opens_round e)))
+    (cases_Bool (is_beacon d.out))
   where
     calm : (r b h a x : Bool) → b ≡ true → cond r false (cond b (h && not a) x) ≡ true → a ≡ false
     calm true b h a x f e = absurd cc
@@ -139,6 +139,7 @@ settled_steady y v (advance lost ∷ es) e =
     calm false true true false x f e = refl
     calm false true false a x f e = absurd cc
     calm false false h a x f e = absurd cc
+
     still : (r b q x : Bool) → b ≡ false → cond r false (cond b q x) ≡ true → x ≡ true
     still true b q x f e = absurd cc
     still false true q x f e = absurd cc
@@ -152,8 +153,8 @@ next_is_plain y v es e =
     let s = spot_next y ds in
     let calm = ap drains (settled_steady y v es e) in
     ⊎_elim
-      (λ (m : Same y ds s). (m.stay, m.alike.mode, inl m.turn))
-      (λ r. ⊎_elim
-        (λ (m : Within y ds s). (m.stay, m.mode, inr m.opening))
-        (λ (m : Opens y ds s). absurd (let q : true ≡ false = sym m.before ∙ calm in cc)) r)
-      (moves y ds (stands y es))
+    (λ (m : Same y ds s). (m.stay, m.alike.mode, inl m.turn))
+    (λ r. ⊎_elim
+    (λ (m : Within y ds s). (m.stay, m.mode, inr m.opening))
+    (λ (m : Opens y ds s). absurd (let q : true ≡ false = sym m.before ∙ calm in cc)) r)
+    (moves y ds (stands y es))

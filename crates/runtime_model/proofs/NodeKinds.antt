@@ -1,8 +1,8 @@
 -- The node's state against the past
-use Rattle.std.proofs.Common.{◌≡◌, ℕ, Bool, true, false, cond, not, ◌&&◌, List, [], ◌∷◌, refl, sym, ◌∙◌, ap, subst, arith}
+use Rattle.std.proofs.Common.{◌≡◌, ℕ, Bool, true, false, cond, not, ◌&&◌, List, [], ◌∷◌, refl, ◌∙◌, ap}
 use Rattle.runtime_model.specs.Laws.{KindsFollow}
 use Rattle.runtime_model.specs.LookingBack.{synced, settled, coasts}
-use Rattle.runtime_model.specs.NodeKinds.{NodeKind, listening, in_sync, coasting, missed, next_kind, kind, kind_by}
+use Rattle.runtime_model.specs.NodeKinds.{listening, in_sync, missed, next_kind, kind, kind_by}
 use Rattle.runtime_model.specs.Outcomes.{Step, is_beacon, hears, restarts, announces}
 
 -- a node that is settled heard the last beacon, and one that coasts did not
@@ -11,7 +11,7 @@ Fits heard calm missed_one = (heard ≡ false → calm ≡ false) × (heard ≡ 
 
 step : (r b h a heard calm missed_one : Bool) → Fits heard calm missed_one →
     (cond r listening (cond b (cond h (in_sync a) (missed (kind_by heard calm missed_one))) (kind_by heard calm missed_one))
-      ≡ kind_by (cond r false (cond b h heard)) (cond r false (cond b (h && not a) calm)) (cond r false (cond b (not h && calm) missed_one)))
+    ≡ kind_by (cond r false (cond b h heard)) (cond r false (cond b (h && not a) calm)) (cond r false (cond b (not h && calm) missed_one)))
     × Fits (cond r false (cond b h heard)) (cond r false (cond b (h && not a) calm)) (cond r false (cond b (not h && calm) missed_one))
 step true b h a heard calm missed_one f = (refl, ((λ e. refl), (λ e. refl)))
 step false false h a heard calm missed_one f = (refl, f)

@@ -1,16 +1,16 @@
--- Each start stands once in its cycle
-use Rattle.std.proofs.Common.{◌≡◌, ℕ, zero, suc, ◌+◌, ◌-◌, ◌*◌, ◌%◌, ◌<◌, ◌≤◌, Bool, true, false, cond, eqb, ◌&&◌, List, [], ◌∷◌, ◌++◌, length, get_or, map, refl, sym, ◌∙◌, ap, subst, arith, ◌⊎◌, inl, inr, ⊎_elim, length-append, append-nil}
-use Rattle.std.specs.Prelude.{nat_eq}
+-- Each start and each beacon stands once in its cycle
+use Rattle.std.proofs.Common.{◌≡◌, ℕ, zero, suc, ◌+◌, ◌-◌, ◌<◌, ◌≤◌, Bool, true, false, cond, ◌&&◌, List, [], ◌∷◌, ◌++◌, length, get_or, map, refl, sym, ◌∙◌, ap, subst, arith, ⊎_elim, length-append}
+use Rattle.std.specs.Prelude.{nat_eq, slice_index_or}
 use Rattle.std.specs.List.{AllByRecursion, flat_map}
 use Rattle.std.proofs.lemmas.Bool.{cases_lt, eqb-true, and_parts}
 use Rattle.std.proofs.lemmas.List.{get_or_append_left, get_or-append-add}
-use Rattle.std.proofs.lemmas.Grind.{flat_map-append}
-use Rattle.sched_model.specs.Numbers.{below}
-use Rattle.sched_model.specs.PlainMode.{PlainMode, hyper, task_at}
+use Rattle.sched_model.specs.Numbers.{below, natural}
+use Rattle.sched_model.specs.Rounds.{round_start}
+use Rattle.sched_model.specs.PlainMode.{hyper, task_at}
 use Rattle.runtime_model.specs.Entries.{Entry, Action, task_ends, beacon, slot, task_starts, cycle, at_tick, by_node, round_at, due_start, due_end}
-use Rattle.runtime_model.specs.Plans.{Plan}
-use Rattle.sched_model.proofs.Lists.{all_both, flat_all, below_all, cond_all, all_left, all_right}
-use Rattle.runtime_model.proofs.Cycles.{none, all_at, all_more, all_by_node, At, at_right, RightIn, ends_right, rounds_right, rank, flat_below-suc}
+use Rattle.runtime_model.specs.Plans.{Plan, place_from}
+use Rattle.sched_model.proofs.Lists.{flat_all, below_all, cond_all}
+use Rattle.runtime_model.proofs.Cycles.{all_map, none, all_at, all_more, all_by_node, At, at_right, RightIn, ends_right, rounds_right, rank, flat_below-suc}
 
 abbrev pub Once : List Entry → Entry → Type 0
 Once xs x = (i j : ℕ) → i < length xs → j < length xs → get_or xs i none ≡ x → get_or xs j none ≡ x → i ≡ j
@@ -50,15 +50,15 @@ once_flat : (f : ℕ → List Entry) (x : Entry) (k : ℕ) → ((i : ℕ) → (i
 once_flat f x k free once zero = λ i j li lj ei ej. absurd (omega (arith, li))
 once_flat f x k free once (suc n) = subst (λ xs. Once xs x) (sym (flat_below-suc f n))
     (⊎_elim
-      (λ (l : n < k). once_left (flat_map f (below n)) (f n) x (once_flat f x k free once n) (free n (λ e. omega (arith, e, l))))
-      (λ (l : k ≤ n). ⊎_elim
-        (λ (g : k < n). once_left (flat_map f (below n)) (f n) x (once_flat f x k free once n) (free n (λ e. omega (arith, e, g))))
-        (λ (g : n ≤ k). let same : k ≡ n = omega (arith, l, g) in
-          once_right (flat_map f (below n)) (f n) x
-            (flat_all (λ e. e ≡ x → ⊥) f (below n) (below_all (λ i. Free (f i) x) n (λ i h. free i (λ e. omega (arith, e, same, h)))))
-            (subst (λ z. Once (f z) x) same once))
-        (cases_lt k n))
-      (cases_lt n k))
+    (λ (l : n < k). once_left (flat_map f (below n)) (f n) x (once_flat f x k free once n) (free n (λ e. omega (arith, e, l))))
+    (λ (l : k ≤ n). ⊎_elim
+    (λ (g : k < n). once_left (flat_map f (below n)) (f n) x (once_flat f x k free once n) (free n (λ e. omega (arith, e, g))))
+    (λ (g : n ≤ k). let same : k ≡ n = omega (arith, l, g) in
+    once_right (flat_map f (below n)) (f n) x
+    (flat_all (λ e. e ≡ x → ⊥) f (below n) (below_all (λ i. Free (f i) x) n (λ i h. free i (λ e. omega (arith, e, same, h)))))
+    (subst (λ z. Once (f z) x) same once))
+    (cases_lt k n))
+    (cases_lt n k))
 
 once_cond : (b : Bool) (x e : Entry) → Once (cond b (e ∷ []) []) x
 once_cond true x e i j li lj ei ej = omega (arith, li, lj)
@@ -76,20 +76,58 @@ start_once nodes p u a =
     let rs = flat_map (round_at p u) (below (length p.schedule.starts)) in
     let one = λ (v : ℕ) (c : ℕ). cond (nat_eq (task_at p.mode c).node v && due_start p u c) (record { tick = u; action = task_starts c } ∷ []) [] in
     once_flat (at_tick nodes p) x u
-      (λ t other. all_more (At p t) (λ e. e ≡ x → ⊥) (at_tick nodes p t) (λ e h q. other (sym h.0 ∙ ap (λ (z : Entry). z.tick) q)) (at_right nodes p t))
-      (once_right es (rs ++ by_node nodes p (due_start p u) task_starts u) x
-        (all_more (RightIn p u 0) (λ e. e ≡ x → ⊥) es (λ e h q. omega (arith, h.2, ap (λ (z : Entry). rank z.action) q)) (ends_right nodes p u))
-        (once_right rs (by_node nodes p (due_start p u) task_starts u) x
-          (all_more (RightIn p u 1) (λ e. e ≡ x → ⊥) rs (λ e h q. omega (arith, h.2, ap (λ (z : Entry). rank z.action) q)) (rounds_right p u))
-          (once_flat (λ v. flat_map (one v) (below (length p.mode.tasks))) x (task_at p.mode a).node
-            (λ v other. flat_all (λ e. e ≡ x → ⊥) (one v) (below (length p.mode.tasks)) (below_all (λ c. Free (one v c) x) (length p.mode.tasks)
-              (λ c l. cond_all (λ e. e ≡ x → ⊥) (nat_eq (task_at p.mode c).node v && due_start p u c) (record { tick = u; action = task_starts c } ∷ [])
-                (λ t. ((λ q. other (sym (eqb-true (task_at p.mode c).node v (and_parts (nat_eq (task_at p.mode c).node v) (due_start p u c) t).0) ∙ ap (λ z. (task_at p.mode z).node) (same c a (ap (λ (z : Entry). z.action) q)))), tt)))))
-            (once_flat (one (task_at p.mode a).node) x a
-              (λ c other. cond_all (λ e. e ≡ x → ⊥) (nat_eq (task_at p.mode c).node (task_at p.mode a).node && due_start p u c) (record { tick = u; action = task_starts c } ∷ []) (λ t. ((λ q. other (same c a (ap (λ (z : Entry). z.action) q))), tt)))
-              (once_cond (nat_eq (task_at p.mode a).node (task_at p.mode a).node && due_start p u a) x x) (length p.mode.tasks))
-            nodes)))
-      (hyper p.mode)
+    (λ t other. all_more (At p t) (λ e. e ≡ x → ⊥) (at_tick nodes p t) (λ e h q. other (sym h.0 ∙ ap (λ (z : Entry). z.tick) q)) (at_right nodes p t))
+    (once_right es (rs ++ by_node nodes p (due_start p u) task_starts u) x
+    (all_more (RightIn p u 0) (λ e. e ≡ x → ⊥) es (λ e h q. omega (arith, h.2, ap (λ (z : Entry). rank z.action) q)) (ends_right nodes p u))
+    (once_right rs (by_node nodes p (due_start p u) task_starts u) x
+    (all_more (RightIn p u 1) (λ e. e ≡ x → ⊥) rs (λ e h q. omega (arith, h.2, ap (λ (z : Entry). rank z.action) q)) (rounds_right p u))
+    (once_flat (λ v. flat_map (one v) (below (length p.mode.tasks))) x (task_at p.mode a).node
+    (λ v other. flat_all (λ e. e ≡ x → ⊥) (one v) (below (length p.mode.tasks)) (below_all (λ c. Free (one v c) x) (length p.mode.tasks)
+    (λ c l. cond_all (λ e. e ≡ x → ⊥) (nat_eq (task_at p.mode c).node v && due_start p u c) (record { tick = u; action = task_starts c } ∷ [])
+    (λ t. ((λ q. other (sym (eqb-true (task_at p.mode c).node v (and_parts (nat_eq (task_at p.mode c).node v) (due_start p u c) t).0) ∙ ap (λ z. (task_at p.mode z).node) (same c a (ap (λ (z : Entry). z.action) q)))), tt)))))
+    (once_flat (one (task_at p.mode a).node) x a
+    (λ c other. cond_all (λ e. e ≡ x → ⊥) (nat_eq (task_at p.mode c).node (task_at p.mode a).node && due_start p u c) (record { tick = u; action = task_starts c } ∷ []) (λ t. ((λ q. other (same c a (ap (λ (z : Entry). z.action) q))), tt)))
+    (once_cond (nat_eq (task_at p.mode a).node (task_at p.mode a).node && due_start p u a) x x) (length p.mode.tasks))
+    nodes)))
+    (hyper p.mode)
   where
     same : (c d : ℕ) → task_starts c ≡ task_starts d → c ≡ d
     same c d q = grind (arith, q)
+
+-- ---- beacons
+once_head : (xs : List Entry) (x : Entry) → Free xs x → Once (x ∷ xs) x
+once_head xs x f zero zero li lj ei ej = refl
+once_head xs x f zero (suc j) li lj ei ej = absurd (all_at (λ e. e ≡ x → ⊥) xs j none f (omega (arith, lj)) ej)
+once_head xs x f (suc i) j li lj ei ej = absurd (all_at (λ e. e ≡ x → ⊥) xs i none f (omega (arith, li)) ei)
+
+once_when : (b : Bool) (xs : List Entry) (x : Entry) → Once xs x → Once (cond b xs []) x
+once_when true xs x o = o
+once_when false xs x o = λ i j li lj ei ej. absurd (omega (arith, li))
+
+pub beacon_once : (nodes : ℕ) (p : Plan) (u j : ℕ) → Once (cycle nodes p) (record { tick = u; action = beacon j })
+unfolding cycle
+beacon_once nodes p u j =
+    let x : Entry = record { tick = u; action = beacon j } in
+    let es = by_node nodes p (due_end p u) task_ends u in
+    let ss = by_node nodes p (due_start p u) task_starts u in
+    let rs = flat_map (round_at p u) (below (length p.schedule.starts)) in
+    let slot_of = λ (i number : ℕ). let e : Entry = record { tick = u; action = slot i (place_from 0 p.mode.messages number) } in e in
+    let free_slots = λ (i : ℕ). all_map (λ e. e ≡ x → ⊥) (slot_of i) (slice_index_or p.schedule.tables i []) (λ number c q. no_slot i (place_from 0 p.mode.messages number) (ap (λ (z : Entry). z.action) q)) in
+    once_flat (at_tick nodes p) x u
+    (λ t other. all_more (At p t) (λ e. e ≡ x → ⊥) (at_tick nodes p t) (λ e h q. other (sym h.0 ∙ ap (λ (z : Entry). z.tick) q)) (at_right nodes p t))
+    (once_right es (rs ++ ss) x
+    (all_more (RightIn p u 0) (λ e. e ≡ x → ⊥) es (λ e h q. omega (arith, h.2, ap (λ (z : Entry). rank z.action) q)) (ends_right nodes p u))
+    (once_left rs ss x
+    (once_flat (round_at p u) x j
+    (λ i other. cond_all (λ e. e ≡ x → ⊥) (nat_eq (natural (round_start p.schedule i)) u) (record { tick = u; action = beacon i } ∷ map (slot_of i) (slice_index_or p.schedule.tables i []))
+    (λ t. ((λ q. other (same i j (ap (λ (z : Entry). z.action) q))), free_slots i)))
+    (once_when (nat_eq (natural (round_start p.schedule j)) u) (x ∷ map (slot_of j) (slice_index_or p.schedule.tables j [])) x (once_head (map (slot_of j) (slice_index_or p.schedule.tables j [])) x (free_slots j)))
+    (length p.schedule.starts))
+    (all_more (RightIn p u 2) (λ e. e ≡ x → ⊥) ss (λ e h q. omega (arith, h.2, ap (λ (z : Entry). rank z.action) q)) (all_by_node (RightIn p u 2) nodes p (due_start p u) task_starts u (λ a l t. (refl, (l, t), refl))))))
+    (hyper p.mode)
+  where
+    same : (c d : ℕ) → beacon c ≡ beacon d → c ≡ d
+    same c d q = grind (arith, q)
+
+    no_slot : (i m : ℕ) → slot i m ≡ beacon j → ⊥
+    no_slot i m q = grind (arith, q)

@@ -1,25 +1,16 @@
 -- The out register at a slot is that of the window's run
-use Rattle.std.proofs.Common.{◌≡◌, ℕ, zero, suc, ◌+◌, ◌-◌, ◌*◌, ◌/◌, ◌%◌, ◌<◌, ◌≤◌, Bool, true, false, cond, not, eqb, ltb, ◌&&◌, ◌||◌, List, [], ◌∷◌, ◌++◌, length, get_or, refl, sym, ◌∙◌, ap, subst, arith, ◌⊎◌, inl, inr, ⊎_elim, ℤ, pos}
-use Rattle.std.specs.Prelude.{nat_eq, nat_lt, Option, Some, None}
-use Rattle.std.proofs.lemmas.Bool.{cases_Bool, cases_lt, cond-true, cond-false, eqb-true, eqb-false, eq-eqb, and_parts}
-use Rattle.std.proofs.lemmas.Nat.{div-add-mod', mod_below, div-mul-add, le-div}
-use Rattle.std.proofs.Math.Nat.{mul-le-mul_right}
-use Rattle.sched_model.specs.PlainMode.{PlainMode, hyper, task_at, message_at}
-use Rattle.runtime_model.proofs.TaskTimes.{TaskFits}
-use Rattle.runtime_model.specs.Entries.{Entry, Action, task_ends, beacon, slot, task_starts, cycle, due_start, due_end}
-use Rattle.runtime_model.specs.History.{history, step_of, last_spot, next_place, spot_next, entries, entry_at, no_entry, performed, start_or_not, finished_or_not, sent_or_not}
-use Rattle.runtime_model.specs.Inputs.{inputs}
+use Rattle.std.proofs.Common.{◌≡◌, ℕ, Bool, true, false, cond, not, ◌&&◌, ◌||◌, List, [], ◌∷◌, refl, sym, ◌∙◌, ap, subst, arith, ◌⊎◌, inl, inr, ℤ}
+use Rattle.std.specs.Prelude.{nat_eq, Option, Some, None}
+use Rattle.std.proofs.lemmas.Bool.{eqb-true, and_parts}
+use Rattle.runtime_model.specs.Entries.{Action, task_ends, beacon, slot, task_starts}
+use Rattle.runtime_model.specs.History.{last_spot, performed, start_or_not, finished_or_not, sent_or_not}
 use Rattle.runtime_model.specs.LookingBack.{recall, or_else, runs, synced, coasts, settled}
-use Rattle.runtime_model.specs.Outcomes.{PlainEvent, advance, request, restart, Spot, Step, Outcome, beaconed, sent, silent, started, off, finished, void, requested, restarted, is_beacon, restarts, begun_run, ended_run, hears}
+use Rattle.runtime_model.specs.Outcomes.{Spot, Step, Outcome, is_beacon, restarts, begun_run, hears}
 use Rattle.runtime_model.specs.Packets.{packet}
-use Rattle.runtime_model.specs.Placement.{placed, own_start, run_at, ends_run, ending_run_at}
-use Rattle.runtime_model.specs.Plans.{Plan, offset, node_of}
-use Rattle.runtime_model.specs.Registers.{last_end, out_register}
-use Rattle.runtime_model.specs.System.{System, plan_at, body_at, state}
-use Rattle.runtime_model.specs.Timeline.{PlainPhase, drains, Hyperperiod}
-use Rattle.runtime_model.proofs.Instances.{same_class, later_runs, first_runs}
-use Rattle.runtime_model.proofs.Cycles.{Has, none, has_start, has_end, entry_right, key_order, rank, key}
-use Rattle.runtime_model.proofs.Spots.{Same, Within, Opens, Moves, moves, stands, Stands}
+use Rattle.runtime_model.specs.Placement.{placed, own_start, ends_run, ending_run_at}
+use Rattle.runtime_model.specs.Plans.{Plan, node_of}
+use Rattle.runtime_model.specs.Registers.{last_end}
+use Rattle.runtime_model.specs.System.{System}
 
 -- ---- looking back
 pub cond_some : {X : Type 0} (b : Bool) (x : Option X) (z : X) → cond b x None ≡ Some z → (b ≡ true) × (x ≡ Some z)

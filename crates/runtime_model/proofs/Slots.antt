@@ -1,26 +1,25 @@
 -- At a placed slot the out registers are those of its window
-use Rattle.std.proofs.Common.{◌≡◌, ℕ, zero, suc, ◌+◌, ◌-◌, ◌*◌, ◌/◌, ◌%◌, ◌<◌, ◌≤◌, Bool, true, false, cond, not, eqb, ltb, ◌&&◌, List, [], ◌∷◌, length, get_or, map, Contains, refl, sym, ◌∙◌, ap, subst, arith, ◌⊎◌, inl, inr, ⊎_elim, ℤ, pos, ◌+ℤ◌, ◌≤ℤ◌}
-use Rattle.std.specs.Prelude.{nat_eq, nat_lt, Option, Some, None}
+use Rattle.std.proofs.Common.{◌≡◌, ℕ, suc, ◌*◌, ◌≤◌, Bool, true, false, cond, ◌&&◌, List, [], ◌∷◌, length, map, Contains, refl, sym, ◌∙◌, ap, subst, arith, ℤ, pos}
+use Rattle.std.specs.Prelude.{nat_eq, Option, Some, None}
 use Rattle.std.proofs.lemmas.Int.{ints}
-use Rattle.std.proofs.lemmas.Bool.{cases_Bool, cond-true, cond-false, eqb-true, eq-eqb, and_parts}
-use Rattle.sched_model.specs.PlainMode.{PlainMode, hyper, task_at, message_at}
-use Rattle.sched_model.specs.Rounds.{round_start, task_start, opens, closes}
-use Rattle.runtime_model.proofs.TaskTimes.{TaskFits}
-use Rattle.runtime_model.specs.Entries.{Entry, Action, slot}
-use Rattle.runtime_model.specs.History.{history, last_spot, spot_next, entries, entry_at}
+use Rattle.std.proofs.lemmas.Bool.{cond-true, eq-eqb}
+use Rattle.sched_model.specs.PlainMode.{message_at}
+use Rattle.sched_model.specs.Rounds.{round_start}
+use Rattle.runtime_model.specs.Entries.{Action, slot}
+use Rattle.runtime_model.specs.History.{history, spot_next, entries, entry_at}
 use Rattle.runtime_model.specs.Laws.{RegistersHold}
 use Rattle.runtime_model.specs.LookingBack.{recall, or_else, runs}
-use Rattle.runtime_model.specs.Outcomes.{PlainEvent, Spot, Step, Outcome, beaconed, sent, silent, started, off, finished, void, requested, restarted, ended_run, advance}
-use Rattle.runtime_model.specs.Packets.{held, all_present}
+use Rattle.runtime_model.specs.Outcomes.{PlainEvent, Step, Outcome, beaconed, sent, silent, started, off, finished, void, requested, restarted, ended_run, advance}
+use Rattle.runtime_model.specs.Packets.{all_present}
 use Rattle.runtime_model.specs.Placement.{placed, own_slot, window_at}
-use Rattle.runtime_model.specs.Plans.{Plan, offset, node_of, RightPlan, Carried}
-use Rattle.runtime_model.specs.Registers.{last_end, out_register, value_of, registers}
+use Rattle.runtime_model.specs.Plans.{node_of, RightPlan, Carried}
+use Rattle.runtime_model.specs.Registers.{last_end, out_register, value_of}
 use Rattle.runtime_model.specs.System.{System, plan_at}
 use Rattle.runtime_model.specs.Timeline.{drains}
 use Rattle.sched_model.proofs.Graph.{message_edge}
-use Rattle.runtime_model.proofs.Cycles.{none, entry_right, RightAt}
-use Rattle.runtime_model.proofs.Spots.{Moves, moves, stands}
-use Rattle.runtime_model.proofs.Times.{natural_is, offset_is, task_fits, SlotWindow, slot_window, round_from_zero}
+use Rattle.runtime_model.proofs.Cycles.{entry_right, RightAt}
+use Rattle.runtime_model.proofs.Spots.{moves, stands}
+use Rattle.runtime_model.proofs.Times.{natural_is, offset_is, task_fits, slot_window, round_from_zero}
 use Rattle.runtime_model.proofs.OutRegisters.{Is, full_is_current, index_fits, start_place}
 
 -- ---- one end against another
@@ -125,10 +124,10 @@ module _ (y : System) (es : List PlainEvent) (j i : ℕ) (ok : RightPlan y.nodes
       let app = e.period ∙ (ok.valid.consumer_app i b.0 c.1 b.1).0 in
       let per = ap (λ z. k * z) app in
       recall_value (node_of p a) s.stay a k ds (λ l x h.
-        full_is_current y md a fit some es t.tick k l (slot j i) x refl is refl h
-          (omega (arith, ints, m.sent a in_from, w.after, o, at, at', per))
-          (omega (arith, ints, m.kept a in_from, w.before, o, at, at', per, app, ok.valid.round))
-          (λ d. omega (arith, w.released d, per)))
+      full_is_current y md a fit some es t.tick k l (slot j i) x refl is refl h
+      (omega (arith, ints, m.sent a in_from, w.after, o, at, at', per))
+      (omega (arith, ints, m.kept a in_from, w.before, o, at, at', per, app, ok.valid.round))
+      (λ d. omega (arith, w.released d, per)))
     where
       calm : (b d : Bool) → (b ≡ true → d ≡ false) → d ≡ true → b ≡ false
       calm true d f e = absurd (let q : true ≡ false = sym e ∙ f refl in cc)

@@ -1,15 +1,12 @@
 -- How the places of successive events follow each other
-use Rattle.std.proofs.Common.{◌≡◌, ℕ, zero, suc, ◌+◌, ◌-◌, ◌*◌, ◌/◌, ◌%◌, ◌<◌, ◌≤◌, Bool, true, false, cond, not, eqb, ltb, ◌&&◌, List, [], ◌∷◌, ◌++◌, length, get_or, map, refl, sym, ◌∙◌, ap, subst, arith, ◌⊎◌, inl, inr, ⊎_elim}
+use Rattle.std.proofs.Common.{◌≡◌, ℕ, suc, ◌+◌, ◌<◌, ◌≤◌, Bool, true, false, cond, not, List, [], ◌∷◌, ◌++◌, length, refl, sym, ◌∙◌, ap, arith, ◌⊎◌, inl, inr, ⊎_elim}
 use Rattle.std.specs.Prelude.{nat_eq, nat_lt}
-use Rattle.std.specs.List.{flat_map}
-use Rattle.std.proofs.lemmas.Bool.{cases_Bool, cond-true, cond-false, eqb-true, eqb-false, eq-eqb}
+use Rattle.std.proofs.lemmas.Bool.{cases_Bool, cond-true, cond-false, eq-eqb}
 use Rattle.sched_model.specs.PlainMode.{hyper}
-use Rattle.runtime_model.specs.Entries.{Entry, Action}
-use Rattle.runtime_model.specs.History.{history, step_of, last_spot, next_place, marks_of, turns, end_marks, arrival, beacon_marks, marks_next, spot_next, with_hyper, turned, entries, entry_at, is_first_beacon, first_spot}
+use Rattle.runtime_model.specs.History.{history, last_spot, next_place, marks_of, turns, arrival, spot_next, with_hyper, turned, entries, entry_at, is_first_beacon}
 use Rattle.runtime_model.specs.Outcomes.{PlainEvent, advance, request, restart, Spot, Step}
-use Rattle.runtime_model.specs.Plans.{Plan}
 use Rattle.runtime_model.specs.System.{System, plan_at}
-use Rattle.runtime_model.specs.Timeline.{PlainPhase, steady, warn, drain, drains, Hyperperiod, Timeline, Mark, asked, begins, ended, timeline_of, untaken, request_in, phase_at_beacon, decided, follows, fresh}
+use Rattle.runtime_model.specs.Timeline.{PlainPhase, steady, warn, drain, drains, Hyperperiod, Mark, begins, ended, timeline_of, untaken, request_in, decided, follows, fresh}
 
 -- two hyperperiods of one mode, opening alike and draining alike
 pub record Alike (g h : Hyperperiod) : Type 0 where
@@ -62,7 +59,7 @@ follows_drains mode steady e = refl
 follows_drains mode (warn m) e = absurd cc
 follows_drains mode (drain m) e = refl
 
--- what the timeline_of sees of the next Advance
+-- what the timeline sees of the next Advance
 alike_marks : (b c : Bool) (ms : List Mark) → Alike (timeline_of ((cond b (begins ∷ []) [] ++ cond c (ended ∷ []) []) ++ ms)).last (timeline_of (cond c (ended ∷ []) [] ++ ms)).last
 alike_marks true true ms = alike_begins (ended ∷ ms)
 alike_marks true false ms = alike_begins ms
@@ -112,7 +109,7 @@ abbrev spot_with : System → List Step → Bool → Bool → Spot
 spot_with y ds b c =
     let s = last_spot ds in
     with_hyper (cond c (turned y s (ended ∷ marks_of ds)) (record { hyper = (timeline_of (marks_of ds)).last; stay = s.stay; turn = s.turn; begin = s.begin; index = next_place ds }))
-      ((cond b (begins ∷ []) [] ++ cond c (ended ∷ []) []) ++ marks_of ds)
+    ((cond b (begins ∷ []) [] ++ cond c (ended ∷ []) []) ++ marks_of ds)
 
 below_test : (m n : ℕ) → not (nat_lt m n) ≡ false → m < n
 below_test m n e = grind (arith, e)
@@ -125,7 +122,10 @@ moves_with y ds st b false e =
     inl (record {
       inside = below_test (next_place ds) (length (entries y (last_spot ds).hyper.mode)) e;
       alike = alike_both (spot_with y ds b false).hyper (timeline_of (marks_of ds)).last (last_spot ds).hyper (alike_marks b false (marks_of ds)) st.alike;
-      stay = refl; turn = refl; index = refl; begin = refl;
+      stay = refl;
+      turn = refl;
+      index = refl;
+      begin = refl;
     })
 moves_with y ds st b true e =
     let t = (timeline_of (marks_of ds)).last in
@@ -135,25 +135,27 @@ moves_with y ds st b true e =
     let over = above_test (next_place ds) (length (entries y s.hyper.mode)) e in
     let o = follows_opening t.mode t.phase in
     ⊎_elim
-      (λ (d : drains t.phase ≡ true). inr (inr (record {
-        over = over; before = sym st.alike.drains ∙ d;
-        drained = a.drains ∙ follows_drains t.mode t.phase d;
-        opening = a.opening ∙ o ∙ d;
-        stay = cond-true h.opening (suc s.stay) s.stay (o ∙ d);
-        turn = cond-true h.opening 0 (suc s.turn) (o ∙ d);
-        index = refl;
-        begin = refl;
-      })))
-      (λ (d : drains t.phase ≡ false). inr (inl (record {
-        over = over; before = sym st.alike.drains ∙ d;
-        mode = a.mode ∙ follows_mode t.mode t.phase d ∙ st.alike.mode;
-        opening = a.opening ∙ o ∙ d;
-        stay = cond-false h.opening (suc s.stay) s.stay (o ∙ d);
-        turn = cond-false h.opening 0 (suc s.turn) (o ∙ d);
-        index = refl;
-        begin = refl;
-      })))
-      (cases_Bool (drains t.phase))
+    (λ (d : drains t.phase ≡ true). inr (inr (record {
+      over = over;
+      before = sym st.alike.drains ∙ d;
+      drained = a.drains ∙ follows_drains t.mode t.phase d;
+      opening = a.opening ∙ o ∙ d;
+      stay = cond-true h.opening (suc s.stay) s.stay (o ∙ d);
+      turn = cond-true h.opening 0 (suc s.turn) (o ∙ d);
+      index = refl;
+      begin = refl;
+    })))
+    (λ (d : drains t.phase ≡ false). inr (inl (record {
+      over = over;
+      before = sym st.alike.drains ∙ d;
+      mode = a.mode ∙ follows_mode t.mode t.phase d ∙ st.alike.mode;
+      opening = a.opening ∙ o ∙ d;
+      stay = cond-false h.opening (suc s.stay) s.stay (o ∙ d);
+      turn = cond-false h.opening 0 (suc s.turn) (o ∙ d);
+      index = refl;
+      begin = refl;
+    })))
+    (cases_Bool (drains t.phase))
 
 pub moves : (y : System) (ds : List Step) → Stands ds → Moves y ds (spot_next y ds)
 moves y ds st = moves_with y ds st (is_first_beacon (entry_at y (arrival y ds)).action) (turns y ds) refl
@@ -179,15 +181,15 @@ stands y (advance lost ∷ es) =
     record {
       alike = alike_refl s.hyper;
       turn = ⊎_elim
-        (λ (m : Same y ds s). m.alike.opening ∙ st.turn ∙ ap (λ n. nat_eq n 0) (sym m.turn))
-        (λ r. ⊎_elim
+          (λ (m : Same y ds s). m.alike.opening ∙ st.turn ∙ ap (λ n. nat_eq n 0) (sym m.turn))
+          (λ r. ⊎_elim
           (λ (m : Within y ds s). m.opening ∙ suc_is (last_spot ds).turn s.turn m.turn)
           (λ (m : Opens y ds s). m.opening ∙ zero_is s.turn m.turn) r)
-        (moves y ds st);
+          (moves y ds st);
       opening = λ e. ⊎_elim
-        (λ (m : Same y ds s). m.alike.drains ∙ st.opening (sym m.alike.opening ∙ e))
-        (λ r. ⊎_elim
+          (λ (m : Same y ds s). m.alike.drains ∙ st.opening (sym m.alike.opening ∙ e))
+          (λ r. ⊎_elim
           (λ (m : Within y ds s). absurd (let x : true ≡ false = sym e ∙ m.opening in cc))
           (λ (m : Opens y ds s). m.drained) r)
-        (moves y ds st);
+          (moves y ds st);
     }

@@ -1,8 +1,8 @@
 -- The times of tasks and slots under a right plan
-use Rattle.std.proofs.Common.{◌≡◌, ℕ, zero, suc, ◌+◌, ◌-◌, ◌*◌, ◌/◌, ◌%◌, ◌<◌, ◌≤◌, Bool, true, false, List, [], ◌∷◌, length, get_or, Contains, refl, sym, ◌∙◌, ap, subst, arith, ◌⊎◌, inl, inr, ⊎_elim, ℤ, pos, negsuc, ◌+ℤ◌, ◌-ℤ◌, ◌*ℤ◌, ◌≤ℤ◌, ◌<ℤ◌}
+use Rattle.std.proofs.Common.{◌≡◌, ℕ, zero, suc, ◌+◌, ◌-◌, ◌*◌, ◌/◌, ◌%◌, ◌<◌, ◌≤◌, Bool, true, false, List, [], ◌∷◌, length, get_or, refl, sym, ◌∙◌, ap, subst, arith, ⊎_elim, ℤ, pos, negsuc, ◌+ℤ◌, ◌-ℤ◌, ◌*ℤ◌, ◌≤ℤ◌, ◌<ℤ◌}
 use Rattle.std.specs.Int.{int_div_euclid}
 use Rattle.std.proofs.lemmas.Int.{ints}
-use Rattle.std.proofs.lemmas.Nat.{mod_below, mod-mul-add, div-mul-add}
+use Rattle.std.proofs.lemmas.Nat.{mod-mul-add, div-mul-add, le-div}
 use Rattle.std.proofs.Math.Nat.{mul-le-mul_right, mul-le-mul_left}
 use Rattle.std.proofs.lemmas.List.{get_or-map, length-map}
 use Rattle.std.proofs.lemmas.List.Elements.{All-get_or, All-contains}
@@ -15,13 +15,11 @@ use Rattle.runtime_model.proofs.TaskTimes.{TaskFits}
 use Rattle.runtime_model.proofs.Cycles.{RightAt}
 use Rattle.sched_model.proofs.Hyper.{period_divides, hyper_some}
 use Rattle.std.specs.Prelude.{nat_eq, cond, not, neg_ℤ}
-use Rattle.sched_model.specs.ConstraintProblem.{latest}
 use Rattle.sched_model.specs.Numbers.{has, natural}
-use Rattle.sched_model.specs.PlainMode.{PlainMode, hyper, task_at, message_at, PlainMessage, no_message}
-use Rattle.sched_model.specs.RightSchedule.{IsSchedule, IsMessage}
+use Rattle.sched_model.specs.PlainMode.{hyper, most_rounds, task_at, message_at, PlainMessage, no_message}
+use Rattle.sched_model.specs.RightSchedule.{IsMessage}
 use Rattle.sched_model.specs.Rounds.{round_start, task_start, opens, closes, start, Carries, InWindow}
 use Rattle.sched_model.specs.TaskGraph.{IsEdge}
-use Rattle.sched_model.specs.declared.schedule.Schedule.{Schedule}
 use Rattle.runtime_model.specs.Entries.{slot}
 use Rattle.runtime_model.specs.Placement.{release, IsRelease, placed, own_slot, not_negative, window_at}
 use Rattle.runtime_model.specs.Plans.{place_from, Plan, offset, RightPlan, Carried}
@@ -35,26 +33,30 @@ natural_is (negsuc n) h = absurd (omega (arith, ints, h))
 at_most_from_times : (z y : ℤ) (g : ℕ) → (z *ℤ pos g) <ℤ ((y +ℤ pos 1) *ℤ pos g) → z ≤ℤ y
 at_most_from_times z y g h =
     ⊎_elim
-      (λ (less : up y + down z < up z + down y).
-        let m : (up y + down z + 1) * g ≤ (up z + down y) * g = mul-le-mul_right g (omega (arith, less)) in
-        absurd (omega (arith, ints, h, m, sum-times y (pos 1) (pos g))))
-      (λ (le : up z + down y ≤ up y + down z). omega (arith, ints, le))
-      (cases_lt (up y + down z) (up z + down y))
+    (λ (less : up y + down z < up z + down y).
+    let m : (up y + down z + 1) * g ≤ (up z + down y) * g = mul-le-mul_right g (omega (arith, less)) in
+    absurd (omega (arith, ints, h, m, sum-times y (pos 1) (pos g))))
+    (λ (le : up z + down y ≤ up y + down z). omega (arith, ints, le))
+    (cases_lt (up y + down z) (up z + down y))
 
 times_at_most : (z y : ℤ) (g : ℕ) → z ≤ℤ y → (z *ℤ pos g) ≤ℤ (y *ℤ pos g)
 times_at_most z y g h = let m : (up z + down y) * g ≤ (up y + down z) * g = mul-le-mul_right g (omega (arith, ints, h)) in omega (arith, ints, m)
 
 exact : (k p : ℕ) → 1 ≤ p → k * p / p ≡ k
 exact k p some = ap (λ x. x / p) (let e : k * p ≡ k * p + 0 = omega arith in e) ∙ div-mul-add k p 0 some
+
 own_yes : (z : ℤ) → not_negative z ≡ true → pos 0 ≤ℤ z
 own_yes (pos n) e = omega (arith, ints)
 own_yes (negsuc n) e = absurd cc
+
 own_no : (z : ℤ) → not_negative z ≡ false → z <ℤ pos 0
 own_no (pos n) e = absurd cc
 own_no (negsuc n) e = omega (arith, ints)
+
 opening_own : (b o : Bool) (phase : PlainPhase) → b ≡ true → placed b phase o ≡ true → o ≡ true
 opening_own true o phase e h = h
 opening_own false o phase e h = absurd cc
+
 drain_own : (b o d : Bool) → d ≡ true → b ≡ false → cond b o (cond d (not o) true) ≡ true → o ≡ false
 drain_own false false true d b h = refl
 drain_own false true true d b h = absurd cc
@@ -123,9 +125,9 @@ module _ (nodes : ℕ) (p : Plan) (ok : RightPlan nodes p) where
       let at : start p.mode p.schedule g ≡ round_start p.schedule j +ℤ pos (n * hyper p.mode) = ap (λ x. round_start p.schedule x +ℤ pos ((g - 1) / r * hyper p.mode)) q ∙ ap (λ x. round_start p.schedule j +ℤ pos (x * hyper p.mode)) d in
       let far : n ≤ n * hyper p.mode = omega (arith, mul_one n (hyper p.mode) (hyper_some p.mode)) in
       ⊎_elim
-        (λ (w : (k : ℕ) × InWindow p.mode p.schedule i k g). (n, w.0, omega (arith, ints, w.1, at), omega (arith, ints, w.1, at)))
-        (λ (early : start p.mode p.schedule g <ℤ opens p.schedule i). absurd (omega (arith, ints, early, at, far, natural_is (opens p.schedule i) (opens_from_zero i c.1), round_from_zero j c.0)))
-        (ok.right.s8 i g c.1 (omega arith) carries)
+      (λ (w : (k : ℕ) × InWindow p.mode p.schedule i k g). (n, w.0, omega (arith, ints, w.1, at), omega (arith, ints, w.1, at)))
+      (λ (early : start p.mode p.schedule g <ℤ opens p.schedule i). absurd (omega (arith, ints, early, at, far, natural_is (opens p.schedule i) (opens_from_zero i c.1), round_from_zero j c.0)))
+      (ok.right.s8 i g c.1 (omega arith) carries)
     where
       mul_one : (n h : ℕ) → 1 ≤ h → n * 1 ≤ n * h
       mul_one n h l = mul-le-mul_left n l
@@ -218,6 +220,25 @@ module _ (nodes : ℕ) (p : Plan) (ok : RightPlan nodes p) where
       let place : own.0 < length p.mode.messages = omega (arith, own.1, length-map p.mode.messages number_of) in
       let is = sym (get_or-map number_of p.mode.messages own.0 no_message r.2.0 place) ∙ own.2 in
       let k = place_is 0 p.mode.messages r.2.0 own.0 place is in
-      let same : k.0 ≡ i = omega (arith, r.2.2, k.1) in
-      (r.0, subst (λ z. z < length p.mode.messages) same k.2,
-        subst (λ z. has (get_or p.schedule.tables j []) (message_at p.mode z).number ≡ true) same (subst (λ z. has (get_or p.schedule.tables j []) z ≡ true) (sym k.3) (contains_has (get_or p.schedule.tables j []) r.2.0 r.2.1)))
+      let same : k.0 ≡ i = omega (arith, r.2.2, k.1) in (
+        r.0,
+        subst (λ z. z < length p.mode.messages) same k.2,
+        subst (λ z. has (get_or p.schedule.tables j []) (message_at p.mode z).number ≡ true) same (subst (λ z. has (get_or p.schedule.tables j []) z ≡ true) (sym k.3) (contains_has (get_or p.schedule.tables j []) r.2.0 r.2.1)),
+      )
+
+-- ---- the rounds of a right plan
+module _ (nodes : ℕ) (p : Plan) (ok : RightPlan nodes p) where
+  -- each round starts after those before it
+  spaced : (j : ℕ) → j < length p.schedule.starts → pos (j * p.mode.round) ≤ℤ round_start p.schedule j
+  spaced zero l = omega (arith, ints, ok.right.s1.begin)
+  spaced (suc j) l = omega (arith, ints, spaced j (omega (arith, l)), ok.right.s1.apart j l)
+
+  -- no mode has more rounds than its hyperperiod has room for
+  pub rounds_fit : length p.schedule.starts ≤ most_rounds p.mode
+  rounds_fit =
+      let r = length p.schedule.starts in
+      let some : 1 ≤ r = omega (arith, ok.right.shape.some, ok.right.shape.starts) in
+      let q = r - 1 in
+      let is : r ≡ suc q = omega (arith, some) in
+      let total : r * p.mode.round ≡ q * p.mode.round + p.mode.round = omega (arith, ap (λ x. x * p.mode.round) is) in
+      le-div r (hyper p.mode) p.mode.round ok.valid.round (omega (arith, ints, total, spaced q (omega (arith, some)), ok.right.s1.end q (omega (arith, some))))

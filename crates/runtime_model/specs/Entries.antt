@@ -35,8 +35,8 @@ by_node nodes p test what u =
 abbrev pub round_at : Plan → ℕ → ℕ → List Entry
 round_at p u j =
     cond (nat_eq (natural (round_start p.schedule j)) u)
-      (record { tick = u; action = beacon j } ∷ map (λ number. record { tick = u; action = slot j (place_from 0 p.mode.messages number) }) (slice_index_or p.schedule.tables j []))
-      []
+    (record { tick = u; action = beacon j } ∷ map (λ number. record { tick = u; action = slot j (place_from 0 p.mode.messages number) }) (slice_index_or p.schedule.tables j []))
+    []
 
 -- the entries of a tick: ends, then the round that starts there, then starts
 abbrev pub at_tick : ℕ → Plan → ℕ → List Entry

@@ -3,11 +3,11 @@ use Rattle.std.specs.Prelude.{ℕ, zero, suc, ◌+◌, Bool, true, false, cond, 
 use Rattle.std.specs.List.{flat_map}
 use Rattle.sched_model.specs.Numbers.{below}
 use Rattle.sched_model.specs.PlainMode.{hyper, task_at}
-use Rattle.runtime_model.specs.Timeline.{steady, drains, named, Hyperperiod, Mark, asked, begins, ended, timeline_of, fresh}
+use Rattle.runtime_model.specs.Timeline.{steady, Hyperperiod, Mark, asked, begins, ended, timeline_of, fresh}
 use Rattle.runtime_model.specs.Plans.{Plan, first_round, node_of}
 use Rattle.runtime_model.specs.Entries.{Entry, Action, task_ends, beacon, slot, task_starts, cycle}
 use Rattle.runtime_model.specs.Placement.{placed, own_start, run_at, ends_run, ending_run_at, window_at}
-use Rattle.runtime_model.specs.Outcomes.{PlainEvent, advance, request, restart, PlainBeacon, Spot, Outcome, beaconed, sent, silent, started, off, finished, void, requested, restarted, Step, begun_run}
+use Rattle.runtime_model.specs.Outcomes.{PlainEvent, advance, request, restart, PlainBeacon, beacon_of, Spot, Outcome, beaconed, sent, silent, started, off, finished, void, requested, restarted, Step, begun_run}
 use Rattle.runtime_model.specs.LookingBack.{runs, recall}
 use Rattle.runtime_model.specs.System.{System, body_at, plan_at, state}
 use Rattle.runtime_model.specs.Packets.{reached, sender_of, packet, takes}
@@ -16,8 +16,8 @@ use Rattle.runtime_model.specs.Inputs.{inputs}
 -- ---- what an entry does
 
 -- the beacon of the round at place j of a hyperperiod
-abbrev pub beacon_of : System → Hyperperiod → ℕ → PlainBeacon
-beacon_of y h j = record { round = first_round y.plans h.mode + j; mode = named h.mode h.phase; trigger = drains h.phase; opening = h.opening }
+abbrev pub beacon_at : System → Hyperperiod → ℕ → PlainBeacon
+beacon_at y h j = beacon_of (first_round y.plans h.mode + j) h.mode h.phase h.opening
 
 -- a slot of the round at place j with message i, where this packet is sent or none
 abbrev pub sent_or_not : Plan → ℕ → Spot → ℕ → ℕ → List Step → Option (List ℤ) → ℕ → Outcome
@@ -44,7 +44,7 @@ start_or_not y p s ds a u true =
 -- and an end where that run's start was performed and the node is unbroken since
 abbrev pub performed : System → Plan → Spot → ℕ → List Step → ℕ → Action → Outcome
 performed y p s lost ds u (task_ends a) = let k = ending_run_at p s.turn u a in finished_or_not (node_of p a) a k (cond (ends_run p s.turn u a) (recall (node_of p a) s.stay (begun_run a k) ds) None)
-performed y p s lost ds u (beacon j) = beaconed (beacon_of y s.hyper j) (filter (reached lost y.host) (below y.nodes))
+performed y p s lost ds u (beacon j) = beaconed (beacon_at y s.hyper j) (filter (reached lost y.host) (below y.nodes))
 performed y p s lost ds u (slot j i) = sent_or_not p y.nodes s j i ds (packet p s j i ds) lost
 performed y p s lost ds u (task_starts a) = start_or_not y p s ds a u (placed s.hyper.opening s.hyper.phase (own_start p u a) && runs (node_of p a) ds)
 

@@ -24,8 +24,8 @@ call_step rounds (request_call m) s = record { marks = asked m ∷ s.marks; roun
 call_step rounds next_beacon_call s = record { marks = cond (nat_eq s.round 1) (begins ∷ s.marks) s.marks; round = s.round; inside = true }
 call_step rounds end_round_call s =
     cond (nat_lt s.round (rounds_in rounds (timeline_of s.marks).last.mode))
-      (record { marks = s.marks; round = suc s.round; inside = false })
-      (record { marks = ended ∷ s.marks; round = 1; inside = false })
+    (record { marks = s.marks; round = suc s.round; inside = false })
+    (record { marks = ended ∷ s.marks; round = 1; inside = false })
 
 abbrev pub call_state : List ℕ → List HostCall → CallState
 call_state rounds [] = record { marks = []; round = 1; inside = false }

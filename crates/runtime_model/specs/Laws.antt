@@ -1,18 +1,19 @@
 -- Laws of the runtime, over every list of events
-use Rattle.std.specs.Prelude.{◌≡◌, ℕ, suc, ◌+◌, ◌*◌, ◌<◌, ◌≤◌, true, List, ◌∷◌, length, Contains, Some}
-use Rattle.sched_model.specs.PlainMode.{hyper, message_at}
+use Rattle.std.specs.Prelude.{◌≡◌, ℕ, suc, ◌+◌, ◌*◌, ◌<◌, ◌≤◌, ◌↔◌, true, false, List, [], ◌∷◌, length, Contains, Option, Some, None, ℤ}
+use Rattle.sched_model.specs.PlainMode.{hyper, task_at, message_at}
 use Rattle.runtime_model.specs.Timeline.{drains}
-use Rattle.runtime_model.specs.HostCalls.{HostCall, AllMay, host_after, after_call}
-use Rattle.runtime_model.specs.Plans.{RightPlan, Carried, node_of}
-use Rattle.runtime_model.specs.Entries.{slot, task_starts, task_ends}
-use Rattle.runtime_model.specs.Placement.{placed, own_slot, own_start, window_at, run_at}
-use Rattle.runtime_model.specs.Outcomes.{PlainEvent, advance, Step, is_beacon, took, started, finished}
-use Rattle.runtime_model.specs.LookingBack.{synced, settled, coasts, recall, last_beacon}
+use Rattle.runtime_model.specs.HostCalls.{HostCall, AllMay, call_state, host_after, after_call}
+use Rattle.runtime_model.specs.Plans.{Plan, RightPlan, Carried, node_of, offset}
+use Rattle.runtime_model.specs.Entries.{slot, task_starts}
+use Rattle.runtime_model.specs.Placement.{release, IsRelease, placed, own_slot, own_start, window_at, run_at}
+use Rattle.runtime_model.specs.Outcomes.{PlainEvent, advance, request, Outcome, Step, is_beacon, took, sent, started}
+use Rattle.runtime_model.specs.LookingBack.{LookedBack, synced, settled, coasts, recall, last_beacon}
 use Rattle.runtime_model.specs.System.{System, plan_at}
 use Rattle.runtime_model.specs.Packets.{held}
-use Rattle.runtime_model.specs.History.{history, step_of, spot_next, entry_at, last_spot, moment}
+use Rattle.runtime_model.specs.History.{history, outcome_of, step_of, spot_next, entry_at, last_spot, marks_of, moment}
 use Rattle.runtime_model.specs.NodeKinds.{kind, kind_by}
-use Rattle.runtime_model.specs.Registers.{registers, in_register, values_of}
+use Rattle.runtime_model.specs.World.{schedule_counts, calls_of, beacon_place}
+use Rattle.runtime_model.specs.Registers.{registers, in_register, values_of, running}
 
 -- a host that stands for a list of calls stands, after a further call whose condition holds, for the list with that call
 abbrev pub HostsKeepTime : Type 0
@@ -51,3 +52,50 @@ abbrev pub BeaconGap : Type 0
 BeaconGap = (y : System) → AllRight y →
     (es : List PlainEvent) (lost : ℕ) (g : Step) → is_beacon (step_of y (advance lost) (history y es)).out ≡ true → last_beacon (history y es) ≡ Some g →
     moment y (step_of y (advance lost) (history y es)) ≤ moment y g + (plan_at y g.spot.hyper.mode).mode.gap
+
+-- A run that starts in a hyperperiod of a stay ends at the latest one tick before the end of each hyperperiod n of the stay that can be the draining one:
+-- n is at least the number of this hyperperiod, and above it where this one does not drain. None of the runs is released in a draining hyperperiod
+abbrev pub RunsEndBeforeSwitch : Type 0
+RunsEndBeforeSwitch = (y : System) (es : List PlainEvent) (lost v b k : ℕ) (ins : List (Option ℤ)) (x : ℤ) →
+    let s = spot_next y (history y es) in
+    let p = plan_at y s.hyper.mode in
+    RightPlan y.nodes p → (step_of y (advance lost) (history y es)).out ≡ started v b k ins x →
+    (drains s.hyper.phase ≡ true → k * (task_at p.mode b).period < s.turn * hyper p.mode)
+    × ((n : ℕ) → s.turn ≤ n → (drains s.hyper.phase ≡ false → s.turn < n) → suc (offset p b + (task_at p.mode b).wcet + k * (task_at p.mode b).period) ≤ suc n * hyper p.mode)
+
+-- a slot's release is the multiple of the period that shifts the message's window round the slot's round
+abbrev pub ReleasesFit : Type 0
+ReleasesFit = (nodes : ℕ) (p : Plan) (j i : ℕ) → RightPlan nodes p → Carried p j i → IsRelease p j i (release p j i)
+
+-- a packet is sent only by a node that heard the last beacon and has not restarted since, in a placed slot
+abbrev pub SendersAreSynced : Type 0
+SendersAreSynced = (y : System) (es : List PlainEvent) (e : PlainEvent) (v i k : ℕ) (xs : List ℤ) (ts : List ℕ) →
+    outcome_of y es e ≡ sent v i k xs ts → synced v (history y es) ≡ true
+
+-- each request of these events names a mode of the system
+abbrev pub RequestsFit : System → List PlainEvent → Type 0
+RequestsFit y [] = Unit {0}
+RequestsFit y (request m ∷ es) = (m < length y.plans) × RequestsFit y es
+RequestsFit y (e ∷ es) = RequestsFit y es
+
+-- The calls that events make of a host meet their conditions, and its timeline is that of the events.
+-- While it is in a round, that is the round of the last beacon; else the next round is the first
+pub record HostFollows (y : System) (ds : List Step) : Type 0 where
+  pub each_may : AllMay (schedule_counts y) (calls_of y ds)
+  pub marks : (call_state (schedule_counts y) (calls_of y ds)).marks ≡ marks_of ds
+  pub inside : (call_state (schedule_counts y) (calls_of y ds)).inside ≡ true →
+      (d : Step) × (last_beacon ds ≡ Some d) × ((call_state (schedule_counts y) (calls_of y ds)).round ≡ suc (beacon_place y d d.out))
+  pub outside : (call_state (schedule_counts y) (calls_of y ds)).inside ≡ false → (call_state (schedule_counts y) (calls_of y ds)).round ≡ 1
+
+abbrev pub HostsFollowEvents : Type 0
+HostsFollowEvents = (y : System) → AllRight y → (es : List PlainEvent) → RequestsFit y es → HostFollows y (history y es)
+
+-- a look back finds x exactly where some step gave it, no later one gave anything, and the node is unbroken since
+abbrev pub RecallLooksBack : Type 0 → Type 0
+RecallLooksBack X = (v stay : ℕ) (f : Outcome → Option X) (ds : List Step) (x : X) → (recall v stay f ds ≡ Some x) ↔ LookedBack v stay f ds x
+
+-- where a start is performed, no run is in progress on its node
+abbrev pub OneRunAtATime : Type 0
+OneRunAtATime = (y : System) (es : List PlainEvent) (lost v b k : ℕ) (ins : List (Option ℤ)) (x : ℤ) →
+    let s = spot_next y (history y es) in
+    RightPlan y.nodes (plan_at y s.hyper.mode) → (step_of y (advance lost) (history y es)).out ≡ started v b k ins x → running v s.stay (history y es) ≡ None

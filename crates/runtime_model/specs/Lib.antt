@@ -15,3 +15,4 @@ pub mod NodeTables
 pub mod World
 pub mod Script
 pub mod Laws
+pub mod Rows

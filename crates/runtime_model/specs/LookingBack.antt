@@ -48,3 +48,18 @@ Unbroken v stay (d ∷ ds) older = (runs v (d ∷ (ds ++ older)) ≡ true) × (d
 abbrev pub recall : {X : Type 0} → ℕ → ℕ → (Outcome → Option X) → List Step → Option X
 recall v stay f [] = None
 recall v stay f (d ∷ ds) = cond (runs v (d ∷ ds) && nat_eq d.spot.stay stay) (or_else (f d.out) (recall v stay f ds)) None
+
+-- none of these steps gives anything
+abbrev pub GivesNothing : {X : Type 0} → (Outcome → Option X) → List Step → Type 0
+GivesNothing f [] = Unit {0}
+GivesNothing f (d ∷ ds) = (f d.out ≡ None) × GivesNothing f ds
+
+-- some step gave x, no later one gave anything, and node v is unbroken in this stay from that step on
+pub record LookedBack {X : Type 0} (v stay : ℕ) (f : Outcome → Option X) (ds : List Step) (x : X) : Type 0 where
+  pub newer : List Step
+  pub step : Step
+  pub older : List Step
+  pub split : ds ≡ newer ++ step ∷ older
+  pub gives : f step.out ≡ Some x
+  pub latest : GivesNothing f newer
+  pub unbroken : Unbroken v stay (newer ++ step ∷ []) older

@@ -5,7 +5,6 @@ use Rattle.sched_model.specs.PlainMode.{hyper, task_at, message_at}
 use Rattle.sched_model.specs.Rounds.{round_start}
 use Rattle.runtime_model.specs.Plans.{Plan, offset, node_of, place_from}
 use Rattle.runtime_model.specs.Placement.{release}
-use Rattle.runtime_model.specs.System.{System}
 use Rattle.runtime_model.specs.Packets.{sender_of, takes_on}
 
 -- a task of the node
@@ -48,7 +47,7 @@ pub record PlainNodeTable : Type 0 where
 abbrev pub own_tasks : Plan → ℕ → List PlainOwnTask
 own_tasks p v =
     map (λ a. record { number = (task_at p.mode a).number; period = (task_at p.mode a).period; offset = offset p a; wcet = (task_at p.mode a).wcet })
-      (filter (λ a. nat_eq (node_of p a) v) (below (length p.mode.tasks)))
+    (filter (λ a. nat_eq (node_of p a) v) (below (length p.mode.tasks)))
 
 -- the numbers of the tasks at these places
 abbrev pub numbers : Plan → List ℕ → List ℕ
@@ -62,12 +61,12 @@ is_own p v i = nat_eq (sender_of p i) v || takes_on p i v
 abbrev pub own_messages : Plan → ℕ → List PlainOwnMessage
 own_messages p v =
     map (λ i. record {
-        number = (message_at p.mode i).number;
-        role = cond (nat_eq (sender_of p i) v) 1 0 + cond (takes_on p i v) 2 0;
-        producers = numbers p (message_at p.mode i).from;
-        consumers = numbers p (filter (λ b. nat_eq (node_of p b) v) (message_at p.mode i).to);
-      })
-      (filter (is_own p v) (below (length p.mode.messages)))
+      number = (message_at p.mode i).number;
+      role = cond (nat_eq (sender_of p i) v) 1 0 + cond (takes_on p i v) 2 0;
+      producers = numbers p (message_at p.mode i).from;
+      consumers = numbers p (filter (λ b. nat_eq (node_of p b) v) (message_at p.mode i).to);
+    })
+    (filter (is_own p v) (below (length p.mode.messages)))
 
 -- the own slots of the table of the round at place j, where the table begins at slot s
 abbrev pub own_slots : Plan → ℕ → ℕ → ℕ → List ℕ → List PlainOwnSlot

@@ -1,7 +1,7 @@
 -- What one event does. Tasks and messages go by their places in the mode, runs and windows by their numbers in the stay
 use Rattle.std.specs.Prelude.{ℕ, Bool, true, false, cond, not, ◌&&◌, nat_eq, List, Option, Some, None, ℤ}
 use Rattle.sched_model.specs.Numbers.{has}
-use Rattle.runtime_model.specs.Timeline.{Hyperperiod, Mark}
+use Rattle.runtime_model.specs.Timeline.{PlainPhase, Hyperperiod, Mark, drains, named}
 
 -- an Advance that the nodes of the set lose, node v where bit v is set; a request of a mode; a restart of a node
 pub data PlainEvent : Type 0 where
@@ -15,6 +15,10 @@ pub record PlainBeacon : Type 0 where
   pub mode : ℕ
   pub trigger : Bool
   pub opening : Bool
+
+-- the beacon of the round with this number, of a hyperperiod with this mode and phase
+abbrev pub beacon_of : (round mode : ℕ) → PlainPhase → Bool → PlainBeacon
+beacon_of round mode phase opening = record { round = round; mode = named mode phase; trigger = drains phase; opening = opening }
 
 -- where an event stands: its hyperperiod, the number of its stay, the hyperperiods of the stay before it, its first tick,
 -- and the place of the entry in its cycle

@@ -1,10 +1,9 @@
 -- Modes with their schedules, and right plans
-use Rattle.std.specs.Prelude.{◌≡◌, ℕ, zero, suc, ◌+◌, ◌<◌, cond, nat_eq, true, List, [], ◌∷◌, length, slice_index_or, map}
+use Rattle.std.specs.Prelude.{◌≡◌, ℕ, zero, suc, ◌+◌, ◌<◌, ◌≤◌, cond, nat_eq, true, List, [], ◌∷◌, length, slice_index_or, map}
 use Rattle.sched_model.specs.declared.schedule.Schedule.{Schedule}
 use Rattle.app_graph.specs.declared.mode_set.ModeSet.{ModeSet}
-use Rattle.app_graph.specs.declared.mode_set.Mode.{Mode}
-use Rattle.sched_model.specs.Numbers.{has, natural}
-use Rattle.sched_model.specs.PlainMode.{PlainMode, PlainMessage, task_at, message_at, plain_mode}
+use Rattle.sched_model.specs.Numbers.{below, has, natural}
+use Rattle.sched_model.specs.PlainMode.{PlainMode, PlainMessage, most_rounds, task_at, message_at, plain_at}
 use Rattle.sched_model.specs.Rounds.{task_start}
 use Rattle.sched_model.specs.RightSchedule.{IsSchedule}
 use Rattle.sched_model.specs.ValidMode.{IsValid}
@@ -14,17 +13,28 @@ pub record Plan : Type 0 where
   pub mode : PlainMode
   pub schedule : Schedule
 
+-- what stands for a schedule past the last one
+abbrev pub no_schedule : Schedule
+no_schedule = record { starts = []; tasks = []; messages = []; tables = [] }
+
+-- the mode of this number with its schedule
+abbrev pub plan_of : ModeSet → List Schedule → ℕ → Plan
+plan_of set schedules i = record { mode = plain_at set i; schedule = slice_index_or schedules i no_schedule }
+
 -- the modes of a set with their schedules
-abbrev pub plans_of : ModeSet → List Mode → List Schedule → List Plan
-plans_of set [] schedules = []
-plans_of set (m ∷ ms) [] = []
-plans_of set (m ∷ ms) (s ∷ ss) = record { mode = plain_mode set m; schedule = s } ∷ plans_of set ms ss
+abbrev pub plans_of : ModeSet → List Schedule → List Plan
+plans_of set schedules = map (plan_of set schedules) (below (length set.modes))
 
--- how many rounds each mode has
-abbrev pub round_counts : List Plan → List ℕ
-round_counts plans = map (λ p. length p.schedule.starts) plans
+-- how many rounds each schedule has
+abbrev pub round_counts : List Schedule → List ℕ
+round_counts schedules = map (λ s. length s.starts) schedules
 
--- the number over the file of the first round of the mode at this place: rounds are numbered from 1 over all modes
+-- the numbers over the file of the first rounds of modes with so many rounds, where the first of them has the number n
+abbrev pub first_rounds : ℕ → List ℕ → List ℕ
+first_rounds n [] = []
+first_rounds n (c ∷ cs) = n ∷ first_rounds (n + c) cs
+
+-- the number of the first round of the mode at this place: rounds are numbered from 1 over all modes
 abbrev pub first_round : List Plan → ℕ → ℕ
 first_round [] mode = 1
 first_round (p ∷ ps) zero = 1
@@ -49,6 +59,14 @@ pub record RightPlan (nodes : ℕ) (p : Plan) : Type 0 where
   pub rounds : ℕ
   pub right : IsSchedule p.mode rounds p.schedule
   pub node : (a : ℕ) → a < length p.mode.tasks → (task_at p.mode a).node < nodes
+
+-- a set within its limits, with one right schedule for each of its modes
+pub record RightPlans (set : ModeSet) (schedules : List Schedule) : Type 0 where
+  pub some : 1 ≤ length set.modes
+  pub most : length set.modes ≤ 8
+  pub rounds : (i : ℕ) → i < length set.modes → most_rounds (plain_at set i) ≤ 256
+  pub one_each : length schedules ≡ length set.modes
+  pub right : (i : ℕ) → i < length set.modes → RightPlan (length set.nodes) (plan_of set schedules i)
 
 -- message i stands in the table of the round at place j
 abbrev pub Carried : Plan → ℕ → ℕ → Type 0

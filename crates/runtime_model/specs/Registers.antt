@@ -1,8 +1,8 @@
 -- What a node keeps, read off its past. A full register has the number of its run or window beside the values
-use Rattle.std.specs.Prelude.{◌≡◌, ℕ, suc, ◌+◌, ◌*◌, ◌<◌, ◌≤◌, cond, nat_eq, ◌&&◌, List, length, map, Option, Some, None, ℤ}
+use Rattle.std.specs.Prelude.{ℕ, cond, nat_eq, ◌&&◌, List, map, Option, Some, None, ℤ}
 use Rattle.sched_model.specs.Numbers.{has}
-use Rattle.sched_model.specs.PlainMode.{hyper, task_at, message_at}
-use Rattle.runtime_model.specs.Plans.{Plan, offset, node_of}
+use Rattle.sched_model.specs.PlainMode.{message_at}
+use Rattle.runtime_model.specs.Plans.{Plan, node_of}
 use Rattle.runtime_model.specs.Outcomes.{Outcome, sent, started, finished, Step}
 use Rattle.runtime_model.specs.LookingBack.{recall}
 use Rattle.runtime_model.specs.Packets.{all_present}

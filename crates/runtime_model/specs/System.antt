@@ -1,5 +1,5 @@
 -- What runs: nodes, plans and the bodies of the tasks
-use Rattle.std.specs.Prelude.{ℕ, cond, nat_eq, List, [], ◌∷◌, length, map, filter, slice_index_or, slice_set, Option, ℤ, pos}
+use Rattle.std.specs.Prelude.{ℕ, cond, nat_eq, List, [], ◌∷◌, map, filter, slice_index_or, slice_set, Option, ℤ, pos}
 use Rattle.std.specs.List.{flat_map}
 use Rattle.sched_model.specs.PlainMode.{task_at}
 use Rattle.runtime_model.specs.Plans.{Plan}

@@ -1,5 +1,5 @@
 -- The timeline: a mode runs whole hyperperiods, and requests make it change. A stay is a run of hyperperiods of one mode from its opening one on
-use Rattle.std.specs.Prelude.{ℕ, zero, suc, ◌+◌, Bool, true, false, cond, nat_eq, List, [], ◌∷◌, ◌++◌}
+use Rattle.std.specs.Prelude.{ℕ, Bool, true, false, cond, nat_eq, List, [], ◌∷◌, ◌++◌}
 
 -- what a hyperperiod's beacons announce: nothing, that the mode will change, or that it ends here. The last two name the new mode
 pub data PlainPhase : Type 0 where

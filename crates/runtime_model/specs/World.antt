@@ -1,10 +1,9 @@
 -- A world that stands for its events
 use Rattle.std.specs.Prelude.{◌≡◌, ℕ, ◌-◌, ◌<◌, Bool, true, false, cond, nat_eq, List, [], ◌∷◌, ◌++◌, length, map, slice_index_or, Contains, Option, Some, None, ℤ}
-use Rattle.sched_model.specs.Numbers.{below}
 use Rattle.sched_model.specs.PlainMode.{hyper, message_at}
 use Rattle.runtime_model.specs.Timeline.{drains, Mark, ended}
 use Rattle.runtime_model.specs.HostCalls.{HostCall, request_call, next_beacon_call, end_round_call, PlainHost, host_after, AllMay}
-use Rattle.runtime_model.specs.Plans.{Plan, round_counts, first_round, node_of}
+use Rattle.runtime_model.specs.Plans.{Plan, round_counts, first_round, first_rounds, node_of}
 use Rattle.runtime_model.specs.Entries.{Entry, cycle}
 use Rattle.runtime_model.specs.Outcomes.{PlainEvent, PlainBeacon, Spot, Outcome, beaconed, requested, Step}
 use Rattle.runtime_model.specs.LookingBack.{synced, settled, coasts, runs, last_heard, last_beacon}
@@ -13,6 +12,10 @@ use Rattle.runtime_model.specs.History.{history, last_spot, spot_next, entry_at,
 use Rattle.runtime_model.specs.NodeKinds.{NodeKind, kind_by}
 use Rattle.runtime_model.specs.Registers.{out_register, value_of, in_register, values_of, running}
 use Rattle.runtime_model.specs.NodeTables.{PlainNodeTable, part_of}
+
+-- how many rounds each mode has
+abbrev pub schedule_counts : System → List ℕ
+schedule_counts y = round_counts (map (λ p. p.schedule) y.plans)
 
 -- ---- the calls of the host that events make, the latest first
 
@@ -86,7 +89,7 @@ pub record Knows (y : System) (s : Spot) (d : Step) (now : ℕ) (n : NodeSeen) :
 pub record KeepsRegisters (v : ℕ) (p : Plan) (stay : ℕ) (ds : List Step) (n : NodeSeen) : Type 0 where
   pub outs : (a : ℕ) → a < length p.mode.tasks → node_of p a ≡ v → slice_index_or n.outs a None ≡ value_of (out_register p stay a ds)
   pub ins : (b i : ℕ) → i < length p.mode.messages → Contains (message_at p.mode i).to b → node_of p b ≡ v →
-    slice_index_or (slice_index_or n.ins b []) i None ≡ values_of (in_register p stay b i ds)
+      slice_index_or (slice_index_or n.ins b []) i None ≡ values_of (in_register p stay b i ds)
   pub run : n.run ≡ running v stay ds
 
 -- node v after these steps
@@ -112,15 +115,15 @@ pub record KeepsPlans (y : System) (w : WorldSeen) : Type 0 where
   pub nodes : length w.nodes ≡ y.nodes
   pub cycles : w.cycles ≡ map (cycle y.nodes) y.plans
   pub hypers : w.hypers ≡ map (λ p. hyper p.mode) y.plans
-  pub rounds : w.rounds ≡ round_counts y.plans
-  pub firsts : w.firsts ≡ map (first_round y.plans) (below (length y.plans))
+  pub rounds : w.rounds ≡ schedule_counts y
+  pub firsts : w.firsts ≡ first_rounds 1 (schedule_counts y)
   pub body_places : (a : ℕ) → a < length w.body_places → slice_index_or w.body_places a 0 ≡ y.body_of a
 
 -- the world stands for the events
 pub record StandsFor (y : System) (w : WorldSeen) (es : List PlainEvent) : Type 0 where
   pub keeps : KeepsPlans y w
-  pub host : w.host ≡ host_after (round_counts y.plans) (calls_of y (history y es))
-  pub each_may : AllMay (round_counts y.plans) (calls_of y (history y es))
+  pub host : w.host ≡ host_after (schedule_counts y) (calls_of y (history y es))
+  pub each_may : AllMay (schedule_counts y) (calls_of y (history y es))
   pub now : w.now ≡ now_after y (history y es)
   pub next : w.next ≡ entry_at y (spot_next y (history y es))
   pub each : (v : ℕ) → v < y.nodes → NodeStands y v (history y es) (now_after y (history y es)) (slice_index_or w.nodes v no_node)

@@ -1,33 +1,60 @@
 //! Laws of the runtime. Each holds for every list of events, or of calls.
 
-ghost use Rattle.runtime_model.specs.Laws.{BeaconGap, HostsKeepTime, InputsHold, KindsFollow, RegistersHold};
+ghost use Rattle.std.specs.Prelude.{List, ℤ};
+ghost use Rattle.runtime_model.specs.Laws.{BeaconGap, HostsFollowEvents, HostsKeepTime, InputsHold, KindsFollow, OneRunAtATime, RecallLooksBack, RegistersHold, ReleasesFit, RunsEndBeforeSwitch, SendersAreSynced};
 
 /// A host that stands for a list of its calls stands for the list with one more, whose condition holds.
 pub fn hosts_keep_time()
     ensures { HostsKeepTime }
-{
-}
+{}
+
+/// The calls that events make of a host meet their conditions, and its timeline is that of the events.
+pub fn hosts_follow_events()
+    ensures { HostsFollowEvents }
+{}
 
 /// A node is in the state that the last two beacons and its restarts say.
 pub fn kinds_follow()
     ensures { KindsFollow }
-{
-}
+{}
+
+/// A look back finds what some step gave, where no later one gave anything and the node is unbroken since.
+pub fn recall_looks_back()
+    ensures values { RecallLooksBack ℤ }
+    ensures packets { RecallLooksBack (List ℤ) }
+{}
 
 /// At a placed slot the out registers of the producers have the runs of its window, or are not all full.
 pub fn registers_hold()
     ensures { RegistersHold }
-{
-}
+{}
 
 /// At a placed start of a run the in registers have what was taken in the window of the same number.
 pub fn inputs_hold()
     ensures { InputsHold }
-{
-}
+{}
 
 /// Consecutive beacons are at most the greatest gap apart.
 pub fn beacon_gap()
     ensures { BeaconGap }
-{
-}
+{}
+
+/// Every run that starts in a stay ends one tick before the stay does, or earlier, and none is released in its draining hyperperiod.
+pub fn runs_end_before_switch()
+    ensures { RunsEndBeforeSwitch }
+{}
+
+/// The release of a slot shifts the window of its message round its round.
+pub fn releases_fit()
+    ensures { ReleasesFit }
+{}
+
+/// A node that missed the last beacon, or has restarted since, does not send.
+pub fn senders_are_synced()
+    ensures { SendersAreSynced }
+{}
+
+/// No node has two runs in progress at once, across a switch too.
+pub fn one_run_at_a_time()
+    ensures { OneRunAtATime }
+{}

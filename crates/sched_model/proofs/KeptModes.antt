@@ -17,7 +17,7 @@ use Rattle.app_graph.specs.ValueRules.{among, is_task, goes, has_cycle, hyper_of
 use Rattle.app_graph.specs.Cycles as walks
 use Rattle.app_graph.proofs.Levels.{cycle_law}
 use Rattle.app_graph.specs.Hyperperiod.{hyperperiod, lcm}
-use Rattle.app_graph.specs.Numbering.{place_of as place_of_name, apps_from, numbers_of}
+use Rattle.app_graph.specs.Numbering.{task_place, apps_from, numbers_of}
 use Rattle.sched_model.specs.PlainMode.{PlainMode, PlainTask, hyper, no_task, task_at, message_at, TaskOfApp, tasks_of, place_of, plain_task, plain_mode}
 use Rattle.sched_model.specs.TaskGraph.{IsEdge, Walk}
 use Rattle.sched_model.specs.ValidMode.{IsValid, Joins}
@@ -29,11 +29,11 @@ use Rattle.sched_model.proofs.PlainPlaces.{no_raw_task, no_raw_message, nothing,
 
 -- ---- a known name has a place
 known_place : (name : List ℕ) (us : List RawTask) → is_task us name ≡ true →
-    let q = position_or_len (bytes_eq name) (map (λ u. u.name) us) in (q < length us) × ((get_or us q no_raw_task).name ≡ name)
+    let q = position_or_len (λ (u : RawTask). bytes_eq name u.name) us in (q < length us) × ((get_or us q no_raw_task).name ≡ name)
 known_place name [] e = absurd cc
 known_place name (u ∷ us) e =
     let here = bytes_eq name u.name in
-    let rest = position_or_len (bytes_eq name) (map (λ u. u.name) us) in
+    let rest = position_or_len (λ (u : RawTask). bytes_eq name u.name) us in
     ⊎_elim
     (λ (yes : here ≡ true).
     let z : cond (not here) (1 + rest) 0 ≡ 0 = cond-false (not here) (1 + rest) 0 (ap not yes) in
@@ -44,12 +44,11 @@ known_place name (u ∷ us) e =
     (omega (arith, z, r.0), ap (λ i. (get_or (u ∷ us) i no_raw_task).name) z ∙ r.1))
     (cases_Bool here)
 
-place_is : (name : List ℕ) (us : List RawTask) → is_task us name ≡ true → place_of_name name (map (λ u. u.name) us) ≡ position_or_len (bytes_eq name) (map (λ u. u.name) us)
+place_is : (name : List ℕ) (us : List RawTask) → is_task us name ≡ true → task_place us name ≡ position_or_len (λ (u : RawTask). bytes_eq name u.name) us
 place_is name us e =
-    let names = map (λ u. u.name) us in
-    let q = position_or_len (bytes_eq name) names in
+    let q = position_or_len (λ (u : RawTask). bytes_eq name u.name) us in
     let k = known_place name us e in
-    ap (λ (o : Option ℕ). unwrap_or o 0) (cond-true (ltb q (length names)) (Some q) None (lt-ltb q (length names) (omega (arith, k.0, length-map us (λ u. u.name)))))
+    ap (λ (o : Option ℕ). unwrap_or o 0) (cond-true (ltb q (length us)) (Some q) None (lt-ltb q (length us) k.0))
 
 -- an item of a mapped list comes from one of the list
 from_mapped : {X Y : Type 0} (f : X → Y) (xs : List X) (d : X) (y : Y) → Contains (map f xs) y → (x : X) × Contains xs x × (f x ≡ y)
@@ -121,12 +120,12 @@ module _ (raw : RawSet) (set : ModeSet) (nodes : List (List ℕ)) (mode : RawMod
   member : (k : ℕ) (A : RawApp) → At mode.apps k A → (names : List (List ℕ)) (most : ℕ) → KeptEnds most A names → (a : ℕ) → Contains (map (place_of ts) (numbers_of (t + k) A.tasks names)) a →
       (name : List ℕ) × Contains names name × ((j : ℕ) × (j < length A.tasks) × (a ≡ k + j) × ((get_or A.tasks j no_raw_task).name ≡ name))
   member k A at names most ends a c =
-      let number = λ (name : List ℕ). t + k + place_of_name name (map (λ (u : RawTask). u.name) A.tasks) in
+      let number = λ (name : List ℕ). t + k + task_place A.tasks name in
       let x = from_mapped (place_of ts) (numbers_of (t + k) A.tasks names) 0 a c in
       let y = from_mapped number names [] x.0 x.1 in
       let known = All-contains (λ name. is_task A.tasks name ≡ true) names y.0 (All-from_recursion (λ name. is_task A.tasks name ≡ true) names ends.known) y.1 in
       let q = known_place y.0 A.tasks known in
-      let j = position_or_len (bytes_eq y.0) (map (λ (u : RawTask). u.name) A.tasks) in
+      let j = position_or_len (λ (u : RawTask). bytes_eq y.0 u.name) A.tasks in
       let w = task_there nodes 0 t n mode.apps k A at j q.0 in
       let e : x.0 ≡ t + (k + j) = sym y.2 ∙ ap (λ i. t + k + i) (place_is y.0 A.tasks known) ∙ (let s : t + k + j ≡ t + (k + j) = omega arith in s) in
       (y.0, y.1, (j, q.0, sym x.2 ∙ ap (place_of ts) e ∙ place_at ts t numbered (k + j) w.0, q.1))
@@ -153,7 +152,7 @@ module _ (raw : RawSet) (set : ModeSet) (nodes : List (List ℕ)) (mode : RawMod
   has_one : (k : ℕ) (A : RawApp) (names : List (List ℕ)) (most : ℕ) → KeptEnds most A names → (a : ℕ) × Contains (map (place_of ts) (numbers_of (t + k) A.tasks names)) a
   has_one k A names most ends =
       let l = map (place_of ts) (numbers_of (t + k) A.tasks names) in
-      let number = λ (name : List ℕ). t + k + place_of_name name (map (λ (u : RawTask). u.name) A.tasks) in
+      let number = λ (name : List ℕ). t + k + task_place A.tasks name in
       (get_or l 0 0, Contains-get_or l 0 0 (omega (arith, ends.some, length-map (numbers_of (t + k) A.tasks names) (place_of ts), length-map names number)))
 
   -- ---- edges stay within an application

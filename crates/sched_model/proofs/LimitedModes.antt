@@ -11,7 +11,7 @@ use Rattle.app_graph.specs.declared.mode_set.App.{App}
 use Rattle.app_graph.specs.declared.mode_set.Mode.{Mode}
 use Rattle.app_graph.specs.declared.mode_set.ModeSet.{ModeSet}
 use Rattle.app_graph.specs.ValueRules.{value_rules}
-use Rattle.app_graph.specs.Numbering.{place_of as place_of_name, apps_from, numbers_of, set_of}
+use Rattle.app_graph.specs.Numbering.{task_place, apps_from, numbers_of, set_of}
 use Rattle.app_graph.specs.Validation.{KeepsRules}
 use Rattle.sched_model.specs.PlainMode.{PlainMode, hyper, tasks_of, plain_task, place_of, plain_mode, mode_at, plain_at}
 use Rattle.sched_model.specs.ModeLimits.{IsLimited}
@@ -53,7 +53,7 @@ module _ (raw : RawSet) (kept : KeptSet raw) (mode : RawMode) (t n : ℕ) (ok : 
     where
       count : (base : ℕ) (us : List RawTask) (names : List (List ℕ)) →
           length (map (place_of (tasks_of 0 (apps_from raw.nodes t n mode.apps))) (numbers_of base us names)) ≡ length names
-      count base us names = length-map (numbers_of base us names) (place_of (tasks_of 0 (apps_from raw.nodes t n mode.apps))) ∙ length-map names (λ name. base + place_of_name name (map (λ (u : RawTask). u.name) us))
+      count base us names = length-map (numbers_of base us names) (place_of (tasks_of 0 (apps_from raw.nodes t n mode.apps))) ∙ length-map names (λ name. base + task_place us name)
 
 read_limited : (raw : RawSet) → value_rules raw ≡ None → (mode : Mode) → Contains (set_of raw).modes mode → IsLimited (plain_mode (set_of raw) mode)
 read_limited raw e mode c =

@@ -36,12 +36,12 @@ pub record IsTask (A : RawApp) (u : RawTask) (t : ℕ) (x : TaskOfApp) : Type 0 
 module _ (nodes : List (List ℕ)) where
   length-tasks : (t : ℕ) (us : List RawTask) → length (tasks_from nodes t us) ≡ length us
   length-tasks t [] = refl
-  length-tasks t (u ∷ us) = ap suc (length-tasks (suc t) us)
+  length-tasks t (u ∷ us) = ap suc (length-tasks (t + 1) us)
 
   task_from : (t : ℕ) (us : List RawTask) (j : ℕ) (d : Task) → j < length us → let x = get_or (tasks_from nodes t us) j d in (x.number ≡ t + j) × (x.wcet ≡ (get_or us j no_raw_task).wcet)
   task_from t [] j d l = absurd (omega (arith, l))
   task_from t (u ∷ us) zero d l = (omega arith, refl)
-  task_from t (u ∷ us) (suc j) d l = let r = task_from (suc t) us j d (omega (arith, l)) in (omega (arith, r.0), r.1)
+  task_from t (u ∷ us) (suc j) d l = let r = task_from (t + 1) us j d (omega (arith, l)) in (omega (arith, r.0), r.1)
 
   -- the tasks of the first application, and those of the others
   abbrev part : ℕ → ℕ → ℕ → RawApp → List TaskOfApp
@@ -138,7 +138,7 @@ pub record IsMessage (ts : List TaskOfApp) (A : RawApp) (k t n : ℕ) (u : RawMe
 module _ (nodes : List (List ℕ)) (ts : List TaskOfApp) where
   length-messages : (t m : ℕ) (us : List RawTask) (ms : List RawMessage) → length (messages_from t us m ms) ≡ length ms
   length-messages t m us [] = refl
-  length-messages t m us (u ∷ ms) = ap suc (length-messages t (suc m) us ms)
+  length-messages t m us (u ∷ ms) = ap suc (length-messages t (m + 1) us ms)
 
   abbrev plain : RawApp → Message → PlainMessage
   plain a u = record { number = u.number; period = unsigned_abs a.period; deadline = unsigned_abs a.deadline; from = map (place_of ts) u.from; to = map (place_of ts) u.to }
@@ -148,7 +148,7 @@ module _ (nodes : List (List ℕ)) (ts : List TaskOfApp) where
       (x.number ≡ m + i) × (x.period ≡ unsigned_abs a.period) × (x.deadline ≡ unsigned_abs a.deadline) × (x.from ≡ map (place_of ts) (numbers_of t a.tasks u.from)) × (x.to ≡ map (place_of ts) (numbers_of t a.tasks u.to))
   message_from t m a [] i l = absurd (omega (arith, l))
   message_from t m a (u ∷ ms) zero l = (omega arith, refl, refl, refl, refl)
-  message_from t m a (u ∷ ms) (suc i) l = let r = message_from t (suc m) a ms i (omega (arith, l)) in (omega (arith, r.0), r.1, r.2, r.3, r.4)
+  message_from t m a (u ∷ ms) (suc i) l = let r = message_from t (m + 1) a ms i (omega (arith, l)) in (omega (arith, r.0), r.1, r.2, r.3, r.4)
 
   pub message_found : (t m : ℕ) (apps : List RawApp) (i : ℕ) → i < length (plain_messages ts (apps_from nodes t m apps)) →
       (k : ℕ) × (A : RawApp) × (j : ℕ) × At apps k A × (j < length A.messages) × IsMessage ts A k t (m + i) (get_or A.messages j no_raw_message) (get_or (plain_messages ts (apps_from nodes t m apps)) i no_message)

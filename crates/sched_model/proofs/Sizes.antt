@@ -59,11 +59,11 @@ instances_by_app set mode =
 module _ (nodes : List (List ℕ)) where
   length-tasks : (t : ℕ) (us : List RawTask) → length (tasks_from nodes t us) ≡ length us
   length-tasks t [] = refl
-  length-tasks t (u ∷ us) = ap suc (length-tasks (suc t) us)
+  length-tasks t (u ∷ us) = ap suc (length-tasks (t + 1) us)
 
   length-messages : (t n : ℕ) (us : List RawTask) (ms : List RawMessage) → length (messages_from t us n ms) ≡ length ms
   length-messages t n us [] = refl
-  length-messages t n us (u ∷ ms) = ap suc (length-messages t (suc n) us ms)
+  length-messages t n us (u ∷ ms) = ap suc (length-messages t (n + 1) us ms)
 
   pub task_total : (i t n : ℕ) (apps : List RawApp) → length (tasks_of i (apps_from nodes t n apps)) ≡ length (flat_map (λ (a : RawApp). a.tasks) apps)
   task_total i t n [] = refl

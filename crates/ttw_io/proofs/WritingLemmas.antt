@@ -13,10 +13,10 @@ append_known-nil None = refl
 append_known-nil (Some xs) = ap (λ (ys : List ℕ). Some ys) (append-nil xs)
 
 -- after `done` bytes of the text, n more were added
-pub append_known-take_more : (old mid new : Option (List ℕ)) (text : List ℕ) (done n : ℕ) → mid ≡ append_known old (take done text) → new ≡ append_known mid (take n (drop done text)) → new ≡ append_known old (take (done + n) text)
-append_known-take_more old mid new text done n before more =
+pub added_more : (old mid new : Option (List ℕ)) (text : List ℕ) (done n : ℕ) → mid ≡ append_known old (take done text) → new ≡ append_known mid (take n (drop done text)) → new ≡ append_known old (take (done + n) text)
+added_more old mid new text done n before more =
     more ∙ ap (λ (known : Option (List ℕ)). append_known known (take n (drop done text))) before ∙ append_known-append_known old (take done text) (take n (drop done text)) ∙ ap (append_known old) (sym (take-add done n text))
 
 -- a prefix as long as the text is the text
-pub append_known-take_all : (old new : Option (List ℕ)) (text : List ℕ) (done : ℕ) → length text ≤ done → new ≡ append_known old (take done text) → new ≡ append_known old text
-append_known-take_all old new text done all added = added ∙ ap (append_known old) (take_all done text all)
+pub added_all : (old new : Option (List ℕ)) (text : List ℕ) (done : ℕ) → length text ≤ done → new ≡ append_known old (take done text) → new ≡ append_known old text
+added_all old new text done all added = added ∙ ap (append_known old) (take_all done text all)

@@ -8,9 +8,13 @@ pub data Told : Type 0 where
   missing : Told
   file : List ℕ → Told
 
+-- a count after one more: it stands still at the greatest u64
+abbrev pub one_more : ℕ → ℕ
+one_more count = min (count + 1) (2 ^ 64 - 1)
+
 -- the count of faults rose, or stands at the greatest u64
 abbrev pub Rose : ℕ → ℕ → Type 0
-Rose before now = min (before + 1) (2 ^ 64 - 1) ≤ now
+Rose before now = one_more before ≤ now
 
 -- a read from place `at` on put n bytes of the file at the front of `into`, and none only at the end or without room
 pub record IsRead (bytes : List ℕ) (at n : ℕ) (into : List ℕ) : Type 0 where

@@ -1,16 +1,17 @@
 //! Files and sinks in memory, for tests and for calls whose text is dropped.
 
-ghost use Rattle.std.specs.Prelude.{◌≡◌, ℕ, ◌+◌, ◌-◌, ◌^◌, ◌≤◌, ◌↔◌, [], length, min, Contains, Some, None, IfOk, IfSome, IfNone, IsErr, OnErr};
-ghost use Rattle.ttw_io.specs.Outside.{Told, missing, file, IsRead, Rose};
-ghost use Rattle.ttw_io.specs.Memory.{look_up};
+ghost use Rattle.std.specs.Prelude.{◌≡◌, ℕ, ◌≤◌, ◌<◌, ◌↔◌, ◌⊎◌, ◌++◌, [], length, take, Contains, Some, None, IfOk, IfSome, IfNone, IsErr, OnErr, OnOk, vec_capacity, vec_len};
+ghost use Rattle.ttw_io.specs.Outside.{Told, missing, file, IsRead, ReadsAt, one_more};
+ghost use Rattle.ttw_io.specs.Memory.{FilesInMemory, SinkInMemory, named, look_up, room_left, taken};
 
 use crate::outside::{Failed, Faults, Files, Sink};
 use std::alloc::{AllocError, Global};
+use std::marker::Model;
 
 /// The bytes of the first file of that name.
 fn find<'a>(files: &'a [(String, Vec<u8>)], name: &str) -> Option<&'a [u8]>
-    ensures some { IfSome result (λ bytes. (none : Told) → look_up none files.now name.now ≡ file bytes.now) }
-    ensures none { IfNone result ((none : Told) → look_up none files.now name.now ≡ none) }
+    ensures some { IfSome result (λ bytes. (none : Told) → look_up none (named files.now) name.now ≡ file bytes.now) }
+    ensures none { IfNone result ((none : Told) → look_up none (named files.now) name.now ≡ none) }
 {
     for f in files {
         if f.0.as_str() == name {
@@ -34,7 +35,7 @@ fn copy_at(bytes: &[u8], at: u64, into: &mut [u8]) -> usize
     n
 }
 
-/// The calls that were made, of which those with some numbers fail.
+/// The calls that were made, and the numbers of those that fail.
 #[derive(Drop)]
 struct Calls {
     fail: Vec<u64>,
@@ -44,7 +45,7 @@ struct Calls {
 
 impl Calls {
     fn none(fail: Vec<u64>) -> Self
-        ensures { result ≡ record { fail = fail; made = 0; faults = record { count = 0 } } }
+        ensures { result ≡ record { fail = fail; made = 0; faults = 0 } }
     {
         Calls {
             fail,
@@ -55,11 +56,11 @@ impl Calls {
 
     /// Begins the next call, which fails where its number is one of those.
     fn begin(&mut self) -> Result<(), Failed>
-        ensures numbered { self.new.made ≡ min (self.old.made + 1) (2 ^ 64 - 1) }
-        ensures due { IsErr result ↔ Contains self.old.fail.items self.new.made }
-        ensures fail { self.new.fail ≡ self.old.fail }
-        ensures counted { self.old.faults.count ≤ self.new.faults.count }
-        ensures failed { OnErr result (Rose self.old.faults.count self.new.faults.count) }
+        ensures due { IsErr result ↔ Contains self.old.fail.items (one_more self.old.made) }
+        ensures counted { self.old.faults ≤ self.new.faults }
+        ensures ok { OnOk result (self.new ≡ record self.old { made = one_more self.old.made }) }
+        ensures err { OnErr result
+            (self.new ≡ record self.old { made = one_more self.old.made; faults = one_more self.old.faults }) }
     {
         self.made = self.made.saturating_add(1);
         if self.fail.contains(&self.made) {
@@ -69,18 +70,30 @@ impl Calls {
     }
 }
 
-/// Files in memory. The calls with the numbers that it is given fail, and so does a name that it was not given.
+/// Files in memory. A call with one of the numbers that they were given fails, and so does the read
+/// of a name that they were not given.
 #[derive(Drop)]
 pub struct MemFiles {
     files: Vec<(String, Vec<u8>)>,
     calls: Calls,
 }
 
+impl Model for MemFiles {
+    ghost Value = { FilesInMemory };
+
+    ghost view = { λ m. record {
+      files = named m.files.items;
+      fail = m.calls.fail.items;
+      made = m.calls.made;
+      faults = m.calls.faults;
+    } };
+}
+
 impl MemFiles {
-    /// Takes over the files, of two equal names the first, and the numbers, from 1, of the calls that are to fail.
+    /// Takes over the files, of two equal names the first, and the numbers, from 1, of the calls that
+    /// are to fail.
     pub fn make(files: Vec<(String, Vec<u8>)>, fail: Vec<u64>) -> Self
-        ensures contents { ⟦<MemFiles as Files>⟧.contents result ≡ look_up missing files.items }
-        ensures count { ⟦<MemFiles as Files>⟧.faults result ≡ 0 }
+        ensures { result ≡ record { files = named files.items; fail = fail.items; made = 0; faults = 0 } }
     {
         MemFiles {
             files,
@@ -90,11 +103,20 @@ impl MemFiles {
 }
 
 impl Files for MemFiles {
-    ghost contents = { λ m. look_up missing m.files.items };
+    ghost contents = { λ m. look_up missing m.files };
 
-    ghost faults = { λ m. m.calls.faults.count };
+    ghost faults = { λ m. m.faults };
 
-    fn read_at(&mut self, name: &str, at: u64, into: &mut [u8]) -> Result<usize, Failed> {
+    fn read_at(&mut self, name: &str, at: u64, into: &mut [u8]) -> Result<usize, Failed>
+        ensures fails { IsErr result
+            ↔ (Contains self.old.fail (one_more self.old.made) ⊎ (look_up missing self.old.files name.now ≡ missing)) }
+        ensures room { IfOk result (λ n. n ≤ length into.new) }
+        ensures read { IfOk result (λ n. ReadsAt (look_up missing self.old.files name.now) at n into.new) }
+        ensures ok { OnOk result (self.new ≡ record self.old { made = one_more self.old.made }) }
+        ensures err { OnErr result
+            (self.new ≡ record self.old { made = one_more self.old.made; faults = one_more self.old.faults }) }
+        ensures counted { self.old.faults ≤ self.new.faults }
+    {
         self.calls.begin()?;
         match find(self.files.as_slice(), name) {
             Some(bytes) => Ok(copy_at(bytes, at, into)),
@@ -112,7 +134,7 @@ pub struct SureFiles {
 impl SureFiles {
     /// Takes over the files, of two equal names the first.
     pub fn make(files: Vec<(String, Vec<u8>)>) -> Self
-        ensures contents { ⟦<SureFiles as Files>⟧.contents result ≡ look_up (file []) files.items }
+        ensures contents { ⟦<SureFiles as Files>⟧.contents result ≡ look_up (file []) (named files.items) }
         ensures count { ⟦<SureFiles as Files>⟧.faults result ≡ 0 }
     {
         SureFiles { files }
@@ -120,7 +142,7 @@ impl SureFiles {
 }
 
 impl Files for SureFiles {
-    ghost contents = { λ m. look_up (file []) m.files.items };
+    ghost contents = { λ m. look_up (file []) (named m.files.items) };
 
     ghost faults = { λ _. 0 };
 
@@ -130,17 +152,34 @@ impl Files for SureFiles {
     }
 }
 
-/// A sink in memory, with room that is reserved, which takes so many bytes in a call.
+/// A sink in memory, with room that is reserved. A call takes so many bytes at most, and fails where
+/// it has one of the numbers that the sink was given or where no room is left for a non-empty piece.
 #[derive(Drop)]
 pub struct MemSink {
     bytes: Vec<u8>,
+    room: usize,
     piece: usize,
     calls: Calls,
-    ghost takes_some: { 1 ≤ piece },
+}
+
+impl Model for MemSink {
+    ghost Value = { SinkInMemory };
+
+    ghost view = { λ m. record {
+      bytes = m.bytes.items;
+      room = m.room;
+      piece = m.piece;
+      fail = m.calls.fail.items;
+      made = m.calls.made;
+      faults = m.calls.faults;
+    } };
+
+    ghost invariant = { λ m. (1 ≤ m.piece) × (vec_len m.bytes ≤ m.room) × (m.room ≤ vec_capacity m.bytes) };
 }
 
 impl MemSink {
-    /// Reserves room for `room` bytes. A call takes at most `piece` of them. Writes and flushes are numbered together, from 1, and `fail` has the numbers of the calls that are to fail.
+    /// Reserves room for `room` bytes, of which a call takes at most `piece`. Writes and flushes are
+    /// numbered together, from 1, and `fail` has the numbers of those that are to fail.
     pub fn make(
         alloc: Global,
         room: usize,
@@ -148,11 +187,18 @@ impl MemSink {
         fail: Vec<u64>,
     ) -> Result<Self, AllocError>
         requires { 1 ≤ piece }
-        ensures empty { IfOk result (λ m. ⟦<MemSink as Sink>⟧.held m ≡ Some []) }
-        ensures count { IfOk result (λ m. ⟦<MemSink as Sink>⟧.faults m ≡ 0) }
+        ensures { IfOk result (λ m. m ≡ record {
+          bytes = [];
+          room = room;
+          piece = piece;
+          fail = fail.items;
+          made = 0;
+          faults = 0;
+        }) }
     {
         Ok(MemSink {
             bytes: Vec::with_capacity(alloc, room)?,
+            room,
             piece,
             calls: Calls::none(fail),
         })
@@ -160,20 +206,32 @@ impl MemSink {
 
     /// The bytes held.
     pub fn bytes(&self) -> &[u8]
-        ensures { ⟦<MemSink as Sink>⟧.held self.now ≡ Some result.now }
+        ensures { result.now ≡ self.now.bytes }
     {
         self.bytes.as_slice()
     }
 }
 
 impl Sink for MemSink {
-    ghost held = { λ m. Some m.bytes.items };
+    ghost held = { λ m. Some m.bytes };
 
-    ghost faults = { λ m. m.calls.faults.count };
+    ghost faults = { λ m. m.faults };
 
-    fn write(&mut self, piece: &[u8]) -> Result<usize, Failed> {
+    fn write(&mut self, piece: &[u8]) -> Result<usize, Failed>
+        ensures fails { IsErr result
+            ↔ (Contains self.old.fail (one_more self.old.made) ⊎ ((room_left self.old ≡ 0) × (0 < length piece.now))) }
+        ensures takes { IfOk result (λ n. n ≡ taken self.old (length piece.now)) }
+        ensures some { IfOk result (λ n. 0 < length piece.now → 0 < n) }
+        ensures ok { IfOk result (λ n. self.new ≡ record self.old {
+          bytes = self.old.bytes ++ take n piece.now;
+          made = one_more self.old.made;
+        }) }
+        ensures err { OnErr result
+            (self.new ≡ record self.old { made = one_more self.old.made; faults = one_more self.old.faults }) }
+        ensures counted { self.old.faults ≤ self.new.faults }
+    {
         self.calls.begin()?;
-        let room = self.bytes.capacity() - self.bytes.len();
+        let room = self.room - self.bytes.len();
         if room == 0 && !piece.is_empty() {
             return Err(self.calls.faults.add());
         }
@@ -182,7 +240,13 @@ impl Sink for MemSink {
         Ok(n)
     }
 
-    fn flush(&mut self) -> Result<(), Failed> {
+    fn flush(&mut self) -> Result<(), Failed>
+        ensures fails { IsErr result ↔ Contains self.old.fail (one_more self.old.made) }
+        ensures ok { OnOk result (self.new ≡ record self.old { made = one_more self.old.made }) }
+        ensures err { OnErr result
+            (self.new ≡ record self.old { made = one_more self.old.made; faults = one_more self.old.faults }) }
+        ensures counted { self.old.faults ≤ self.new.faults }
+    {
         self.calls.begin()
     }
 }

@@ -5,7 +5,9 @@
 
 ghost use Rattle.std.specs.Prelude.{◌≡◌, ℕ, ◌≤◌, ◌<◌, List, length, take, Option, IfOk, OnErr};
 ghost use Rattle.std.specs.Io.KnownBytes.{append_known};
-ghost use Rattle.ttw_io.specs.Outside.{Told, Rose, ReadsAt};
+ghost use Rattle.ttw_io.specs.Outside.{Told, Rose, ReadsAt, one_more};
+
+use std::marker::Model;
 
 /// A read, a write or a flush that failed. It was counted.
 #[derive(Clone, Copy, Debug, PartialEq, Eq)]
@@ -17,17 +19,23 @@ pub(crate) struct Faults {
     count: u64,
 }
 
+impl Model for Faults {
+    ghost Value = { ℕ };
+
+    ghost view = { λ f. f.count };
+}
+
 impl Faults {
     pub(crate) fn none() -> Self
-        ensures { result.count ≡ 0 }
+        ensures { result ≡ 0 }
     {
         Faults { count: 0 }
     }
 
     /// Counts one more, and gives the failure to answer.
     pub(crate) fn add(&mut self) -> Failed
-        ensures counted { self.old.count ≤ self.new.count }
-        ensures rose { Rose self.old.count self.new.count }
+        ensures one_more { self.new ≡ one_more self.old }
+        ensures counted { self.old ≤ self.new }
     {
         self.count = self.count.saturating_add(1);
         Failed

@@ -88,7 +88,7 @@ impl<R: rt::Files + Drop> DiskFiles<R> {
 impl<R: rt::Files + Drop> Files for DiskFiles<R> {
     ghost contents = { λ _ _. untold };
 
-    ghost faults = { λ d. d.faults.count };
+    ghost faults = { λ d. d.faults };
 
     fn read_at(&mut self, name: &str, at: u64, into: &mut [u8]) -> Result<usize, Failed> {
         match self.read(name, at, into) {
@@ -120,7 +120,7 @@ impl<R: Print> StdSink<R> {
 impl<R: Print> Sink for StdSink<R> {
     ghost held = { λ _. None };
 
-    ghost faults = { λ s. s.faults.count };
+    ghost faults = { λ s. s.faults };
 
     fn write(&mut self, piece: &[u8]) -> Result<usize, Failed> {
         match self.rt.write_some(piece) {
@@ -130,9 +130,9 @@ impl<R: Print> Sink for StdSink<R> {
     }
 
     fn flush(&mut self) -> Result<(), Failed> {
-        match io::writer(&self.rt).flush() {
-            Ok(()) => Ok(()),
-            Err(_) => Err(self.faults.add()),
+        if io::writer(&self.rt).flush().is_err() {
+            return Err(self.faults.add());
         }
+        Ok(())
     }
 }

@@ -9,14 +9,20 @@ use std::{env, fs, process};
 fn files_of(alloc: Global, files: &[(&str, &[u8])]) -> Result<Vec<(String, Vec<u8>)>, AllocError> {
     let mut list = Vec::new(alloc);
     for (name, bytes) in files {
-        list.push((String::from_str(alloc, name)?, Vec::from_slice(alloc, bytes)?))?;
+        list.push((
+            String::from_str(alloc, name)?,
+            Vec::from_slice(alloc, bytes)?,
+        ))?;
     }
     Ok(list)
 }
 
 #[test]
 fn first_of_two_equal_names(rt: HostRuntime) -> Result<(), Fail> {
-    let list = files_of(rt.alloc(), &[("a", b"first"), ("b", b"other"), ("a", b"second")])?;
+    let list = files_of(
+        rt.alloc(),
+        &[("a", b"first"), ("b", b"other"), ("a", b"second")],
+    )?;
     let mut files = MemFiles::make(list, Vec::new(rt.alloc()));
     let mut into = [b'.'; 4];
     assert_eq!(rt; files.read_at("a", 2, &mut into)?, 3);
@@ -24,7 +30,11 @@ fn first_of_two_equal_names(rt: HostRuntime) -> Result<(), Fail> {
     assert_eq!(rt; files.read_at("b", 0, &mut into)?, 4);
     assert_eq!(rt; into, *b"othe");
     assert_eq!(rt; files.read_at("b", 5, &mut into)?, 0, "at the end");
-    assert_eq!(rt; files.read_at("c", 0, &mut into), Err(Failed), "no such file");
+    assert_eq!(rt;
+        files.read_at("c", 0, &mut into),
+        Err(Failed),
+        "no such file"
+    );
     Ok(())
 }
 
@@ -38,7 +48,7 @@ fn failing_read(rt: HostRuntime) -> Result<(), Fail> {
         match read_all(rt.alloc(), &mut files, "long", 20000) {
             Ok(bytes) => assert!(rt; call == 4 && bytes.as_slice() == long.as_slice()),
             Err(ReadEnd::Failed) => assert!(rt; call < 4, "call {call} was not to fail"),
-            Err(_) => panic!(rt; "call {call}"),
+            Err(_end) => panic!(rt; "call {call}"),
         }
     }
     Ok(())
@@ -48,17 +58,20 @@ fn failing_read(rt: HostRuntime) -> Result<(), Fail> {
 fn limit_of_read_all(rt: HostRuntime) -> Result<(), Fail> {
     let list = files_of(rt.alloc(), &[("abc", b"abc")])?;
     let mut files = SureFiles::make(list);
-    assert_eq!(rt; read_all(rt.alloc(), &mut files, "abc", 3)?.as_slice(), b"abc".as_slice());
+    assert_eq!(rt;
+        read_all(rt.alloc(), &mut files, "abc", 3)?.as_slice(),
+        b"abc".as_slice()
+    );
     assert!(rt; read_all(rt.alloc(), &mut files, "not given", 0)?.is_empty());
     match read_all(rt.alloc(), &mut files, "abc", 1) {
         Err(ReadEnd::Long(bytes)) => assert_eq!(rt; bytes.as_slice(), b"ab".as_slice()),
-        _ => panic!(rt; "three bytes are more than one"),
+        _end => panic!(rt; "three bytes are more than one"),
     }
     match read_all(rt.alloc(), &mut files, "abc", 2) {
         Err(ReadEnd::Long(bytes)) => assert_eq!(rt; bytes.as_slice(), b"abc".as_slice()),
         // That this never comes is proved.
         Err(ReadEnd::Failed) => unreachable!(),
-        _ => panic!(rt; "three bytes are more than two"),
+        _end => panic!(rt; "three bytes are more than two"),
     }
     Ok(())
 }

@@ -13,6 +13,9 @@ loop-i-preserved c =
     let app = c.index-apps-i.result in
     record {
       rest = next_kept (app_values c.args.set.now) apps i (take i apps) app c.loop-i-test.true refl c.index-apps-i.is c.in_ok-check_app.ensures c.loop-i.invariant.rest;
-      few = omega (arith, length_flat_more (λ a. a.tasks) apps i app c.loop-i-test.true c.index-apps-i.is,
-        app_tasks c.args.set.now (take i apps) app c.in_ok-check_app.ensures c.loop-i.invariant.few);
+      few = omega (
+        arith,
+        length_flat_more (λ a. a.tasks) apps i app c.loop-i-test.true c.index-apps-i.is,
+        app_tasks c.args.set.now (take i apps) app c.in_ok-check_app.ensures c.loop-i.invariant.few,
+      );
     }

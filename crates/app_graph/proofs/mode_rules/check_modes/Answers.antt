@@ -19,5 +19,5 @@ returns-in_err-check_mode c =
     let modes = c.as_slice-modes.result.now in
     let i = c.loop-i.i in
     rw (p.1, p.2)
-      (subst (λ (ms : List RawMode). Breaks c.in_err-check_mode.field-0.0 (each_after (mode_values c.args.set.now) [] ms)) c.as_slice-modes.ensures
-        (next_breaks (mode_values c.args.set.now) modes i (take i modes) c.index-modes-i.result c.in_err-check_mode.field-0.0 c.loop-i-test.true refl c.index-modes-i.is c.in_err-check_mode.ensures c.loop-i.invariant))
+    (subst (λ (ms : List RawMode). Breaks c.in_err-check_mode.field-0.0 (each_after (mode_values c.args.set.now) [] ms)) c.as_slice-modes.ensures
+    (next_breaks (mode_values c.args.set.now) modes i (take i modes) c.index-modes-i.result c.in_err-check_mode.field-0.0 c.loop-i-test.true refl c.index-modes-i.is c.in_err-check_mode.ensures c.loop-i.invariant))

@@ -11,8 +11,8 @@ pub returns : goal.returns
 unfolding hyperperiod
 returns c =
     let e = sym (rest_end (λ a. unsigned_abs a.period) c.loop-app.hyper c.as_slice-app-items.result.now c.loop-app.app-index (omega arith))
-      ∙ c.loop-app.invariant.rest
-      ∙ ap (λ (apps : List RawApp). fold lcm 1 (map (λ a. unsigned_abs a.period) apps)) c.as_slice-app-items.ensures in
+    ∙ c.loop-app.invariant.rest
+    ∙ ap (λ (apps : List RawApp). fold lcm 1 (map (λ a. unsigned_abs a.period) apps)) c.as_slice-app-items.ensures in
     (e, omega (arith, e, c.loop-app.invariant.most))
 
 pub returns-in_err-hyper : goal.returns-in_err-hyper
@@ -20,6 +20,9 @@ unfolding hyperperiod
 returns-in_err-hyper c =
     let fits : SFits w64 c.app-item.result.period = search rules in
     rw c.from_residual.ensures
-      (omega (arith, c.loop-app.invariant.rest,
-        ap (λ (apps : List RawApp). fold lcm 1 (map (λ a. unsigned_abs a.period) apps)) c.as_slice-app-items.ensures,
-        rest_over (λ a. unsigned_abs a.period) c.loop-app.hyper 1000000000000 c.as_slice-app-items.result.now c.loop-app.app-index c.app-item.result (omega arith) c.app-item.is (simp to_z-of_z at c.in_err-hyper.ensures)))
+    (omega (
+      arith,
+      c.loop-app.invariant.rest,
+      ap (λ (apps : List RawApp). fold lcm 1 (map (λ a. unsigned_abs a.period) apps)) c.as_slice-app-items.ensures,
+      rest_over (λ a. unsigned_abs a.period) c.loop-app.hyper 1000000000000 c.as_slice-app-items.result.now c.loop-app.app-index c.app-item.result (omega arith) c.app-item.is (simp to_z-of_z at c.in_err-hyper.ensures),
+    ))

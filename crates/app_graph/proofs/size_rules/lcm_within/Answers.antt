@@ -23,5 +23,5 @@ returns-in-None c =
     let some : 0 < unsigned_abs c.args.period = omega (arith, ints, c.requires.period) in
     let l = lcm c.args.hyper (unsigned_abs c.args.period) in
     let over = (simp to_z-of_z at c.in-None.ensures.none) l (lcm_some c.args.hyper (unsigned_abs c.args.period) c.requires.hyper.0)
-      (same_lcm c.args.hyper (unsigned_abs c.args.period) l _ (unsigned_abs c.args.period) l (omega (arith, ints)) refl refl (lcm_is_least c.args.hyper (unsigned_abs c.args.period) c.requires.hyper.0 some)) in
+    (same_lcm c.args.hyper (unsigned_abs c.args.period) l _ (unsigned_abs c.args.period) l (omega (arith, ints)) refl refl (lcm_is_least c.args.hyper (unsigned_abs c.args.period) c.requires.hyper.0 some)) in
     omega (arith, ints, over)

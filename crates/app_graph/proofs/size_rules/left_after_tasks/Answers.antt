@@ -25,4 +25,4 @@ returns-in_err-left c =
     let whole = between_to_end ts (i + 1) (length ts) (omega arith) in
     let over = subst (λ (us : List RawTask). c.loop-i.left < count_by (λ u. bytes_eq t.node u.node) us + others) whole c.in_err-left.ensures in
     rw c.from_residual.ensures
-      (omega (arith, over, pairs_more ts c.args.apps.now i t (omega arith) c.index-tasks-i.is, pairs_end (drop (i + 1) ts) (flat_map (λ a. a.tasks) c.args.apps.now), c.loop-i.invariant))
+    (omega (arith, over, pairs_more ts c.args.apps.now i t (omega arith) c.index-tasks-i.is, pairs_end (drop (i + 1) ts) (flat_map (λ a. a.tasks) c.args.apps.now), c.loop-i.invariant))

@@ -1,0 +1,10 @@
+//! A beacon as four bytes.
+#![tactic(auto)]
+
+mod codec;
+mod packet;
+#[cfg(test)]
+mod tests;
+
+pub use codec::{decode, encode};
+pub use packet::{Beacon, BeaconFault};

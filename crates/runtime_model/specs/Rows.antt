@@ -1,0 +1,185 @@
+-- Worked rows: what scripts do in three small systems, line by line
+use Rattle.std.specs.Prelude.{◌≡◌, ℕ, true, false, List, [], ◌∷◌, drop, replicate, reverse, Some, None, pos}
+use Rattle.std.specs.List.{flat_map}
+use Rattle.task_body.specs.Tally.{answer, first_numbers, numbers_after_fire}
+use Rattle.sched_model.specs.PlainMode.{PlainMode}
+use Rattle.runtime_model.specs.Timeline.{steady}
+use Rattle.runtime_model.specs.HostCalls.{host_after}
+use Rattle.runtime_model.specs.Plans.{Plan}
+use Rattle.runtime_model.specs.Outcomes.{PlainEvent, advance, request, restart, Outcome, beaconed, sent, silent, started, off, finished, void, requested, restarted}
+use Rattle.runtime_model.specs.System.{Body, System}
+use Rattle.runtime_model.specs.History.{history}
+use Rattle.runtime_model.specs.Script.{ScriptLine, go, lose, asks, restarts_node, until_beacon, told}
+use Rattle.runtime_model.specs.World.{schedule_counts, calls_of}
+use Rattle.runtime_model.specs.NodeTables.{part_of}
+
+-- ---- the systems
+
+-- a loop of three tasks: `sense` on node 1 sends `m1` to `ctrl` on node 0, which sends `m2` to `act` on node 2
+abbrev pub loop_mode : PlainMode
+loop_mode = record {
+  slots = 2;
+  round = 20;
+  gap = 100;
+  periods = 100 ∷ [];
+  tasks = record { number = 0; app = 0; node = 1; wcet = 2; period = 100; deadline = 100 }
+      ∷ record { number = 1; app = 0; node = 0; wcet = 5; period = 100; deadline = 100 }
+      ∷ record { number = 2; app = 0; node = 2; wcet = 1; period = 100; deadline = 100 } ∷ [];
+  messages = record { number = 0; period = 100; deadline = 100; from = 0 ∷ []; to = 1 ∷ [] }
+      ∷ record { number = 1; period = 100; deadline = 100; from = 1 ∷ []; to = 2 ∷ [] } ∷ [];
+}
+
+abbrev pub loop_plan : Plan
+loop_plan = record {
+  mode = loop_mode;
+  schedule = record {
+    starts = pos 0 ∷ pos 23 ∷ [];
+    tasks = pos 21 ∷ pos 43 ∷ pos 120 ∷ [];
+    messages = (pos 23, pos 43) ∷ (pos 48, pos 120) ∷ [];
+    tables = (1 ∷ []) ∷ (0 ∷ []) ∷ [];
+  };
+}
+
+-- a mode of one task, with this number and node, that starts with the mode's one round
+abbrev pub single_plan : (slots number node : ℕ) → Plan
+single_plan slots number node = record {
+  mode = record { slots = slots; round = 20; gap = 100; periods = 100 ∷ []; tasks = record { number = number; app = 0; node = node; wcet = 1; period = 100; deadline = 100 } ∷ []; messages = [] };
+  schedule = record { starts = pos 0 ∷ []; tasks = pos 0 ∷ []; messages = []; tables = [] ∷ [] };
+}
+
+abbrev pub tally : Body
+tally = record { state = first_numbers; answer = answer; next = numbers_after_fire }
+
+-- the loop, and beside it an idle mode whose one task blinks on node 2
+abbrev pub two : System
+two = record { nodes = 3; host = 0; plans = loop_plan ∷ single_plan 2 3 2 ∷ []; bodies = tally ∷ []; body_of = λ a. 0 }
+
+-- two modes of one task each, both on node 1
+abbrev pub pair : System
+pair = record { nodes = 2; host = 0; plans = single_plan 1 0 1 ∷ single_plan 1 1 1 ∷ []; bodies = tally ∷ []; body_of = λ a. 0 }
+
+-- ---- events and lines
+
+-- the events of a line that waits for no beacon
+abbrev pub events_of_line : ScriptLine → List PlainEvent
+events_of_line (go n) = replicate n (advance 0)
+events_of_line until_beacon = []
+events_of_line (lose bits) = advance bits ∷ []
+events_of_line (asks m) = request m ∷ []
+events_of_line (restarts_node v) = restart v ∷ []
+
+-- the events of lines, the latest first
+abbrev pub events_of : List ScriptLine → List PlainEvent
+events_of lines = reverse (flat_map events_of_line lines)
+
+-- a beacon of a steady or a warning hyperperiod, of an opening one and of a draining one, that these nodes heard
+abbrev pub steady_beacon : (round mode : ℕ) → List ℕ → Outcome
+steady_beacon round mode hs = beaconed (record { round = round; mode = mode; trigger = false; opening = false }) hs
+
+abbrev pub opening_beacon : (round mode : ℕ) → List ℕ → Outcome
+opening_beacon round mode hs = beaconed (record { round = round; mode = mode; trigger = false; opening = true }) hs
+
+abbrev pub draining_beacon : (round mode : ℕ) → List ℕ → Outcome
+draining_beacon round mode hs = beaconed (record { round = round; mode = mode; trigger = true; opening = false }) hs
+
+-- ---- the rows: what was done, with its ticks
+
+-- node 1 misses a beacon: it does not send in that round, and the controller runs without the input
+abbrev pub LostBeacon : Type 0
+LostBeacon = told two (events_of (go 6 ∷ lose 2 ∷ go 9 ∷ [])) ≡
+    (0, opening_beacon 1 0 (0 ∷ 1 ∷ 2 ∷ []))
+    ∷ (0, silent 1)
+    ∷ (20, off 2 2)
+    ∷ (21, void 2 2)
+    ∷ (21, started 1 0 0 [] (pos 1))
+    ∷ (23, finished 1 0 0 (pos 1))
+    ∷ (23, opening_beacon 2 0 (0 ∷ 2 ∷ []))
+    ∷ (23, silent 0)
+    ∷ (43, started 0 1 0 (None ∷ []) (pos 1))
+    ∷ (48, finished 0 1 0 (pos 1))
+    ∷ (100, steady_beacon 1 0 (0 ∷ 1 ∷ 2 ∷ []))
+    ∷ (100, sent 0 1 0 (pos 1 ∷ []) (2 ∷ []))
+    ∷ (120, started 2 2 0 (Some (pos 1) ∷ []) (pos 2))
+    ∷ (121, finished 2 2 0 (pos 2))
+    ∷ (121, started 1 0 1 [] (pos 2))
+    ∷ (123, finished 1 0 1 (pos 2))
+    ∷ []
+
+abbrev pub change_events : List PlainEvent
+change_events = events_of (go 2 ∷ asks 1 ∷ go 14 ∷ lose 4 ∷ go 3 ∷ lose 4 ∷ go 11 ∷ [])
+
+-- a change to the idle mode, of which node 2 misses the beacons up to the draining's second: from the eighteenth line on
+abbrev pub ModeChange : Type 0
+ModeChange = drop 17 (told two change_events) ≡
+    (123, steady_beacon 2 1 (0 ∷ 1 ∷ []))
+    ∷ (123, sent 1 0 1 (pos 2 ∷ []) (0 ∷ []))
+    ∷ (143, started 0 1 1 (Some (pos 2) ∷ []) (pos 4))
+    ∷ (148, finished 0 1 1 (pos 4))
+    ∷ (200, draining_beacon 1 1 (0 ∷ 1 ∷ []))
+    ∷ (200, sent 0 1 1 (pos 4 ∷ []) [])
+    ∷ (220, off 2 2)
+    ∷ (221, void 2 2)
+    ∷ (221, off 1 0)
+    ∷ (223, void 1 0)
+    ∷ (223, draining_beacon 2 1 (0 ∷ 1 ∷ 2 ∷ []))
+    ∷ (223, silent 0)
+    ∷ (243, off 0 1)
+    ∷ (248, void 0 1)
+    ∷ (300, opening_beacon 3 1 (0 ∷ 1 ∷ 2 ∷ []))
+    ∷ (300, started 2 0 0 [] (pos 1))
+    ∷ []
+
+-- the host after that change's events: it is in the first round of the idle mode's opening hyperperiod
+abbrev pub ModeChangeHost : Type 0
+ModeChangeHost = host_after (schedule_counts two) (calls_of two (history two change_events))
+    ≡ record { mode = 1; round = 1; phase = steady; opening = true; waiting = None; inside = true }
+
+-- a node that misses the warning runs the old mode on, and stops where it hears the draining
+abbrev pub MissedWarning : Type 0
+MissedWarning = told pair (events_of (go 3 ∷ asks 1 ∷ lose 2 ∷ go 8 ∷ [])) ≡
+    (0, opening_beacon 1 0 (0 ∷ 1 ∷ []))
+    ∷ (0, started 1 0 0 [] (pos 1))
+    ∷ (1, finished 1 0 0 (pos 1))
+    ∷ (1, requested 1)
+    ∷ (100, steady_beacon 1 1 (0 ∷ []))
+    ∷ (100, started 1 0 1 [] (pos 2))
+    ∷ (101, finished 1 0 1 (pos 2))
+    ∷ (200, draining_beacon 1 1 (0 ∷ 1 ∷ []))
+    ∷ (200, off 1 0)
+    ∷ (201, void 1 0)
+    ∷ (300, opening_beacon 2 1 (0 ∷ 1 ∷ []))
+    ∷ (300, started 1 0 0 [] (pos 1))
+    ∷ (301, finished 1 0 0 (pos 1))
+    ∷ []
+
+-- a node restarts before a beacon, hears it, and has nothing to send: from the seventh line on
+abbrev pub RestartBeforeBeacon : Type 0
+RestartBeforeBeacon = drop 6 (told two (events_of (go 6 ∷ restarts_node 1 ∷ restarts_node 1 ∷ go 2 ∷ []))) ≡
+    (23, restarted 1) ∷ (23, restarted 1) ∷ (23, opening_beacon 2 0 (0 ∷ 1 ∷ 2 ∷ [])) ∷ (23, silent 0) ∷ []
+
+-- the same where it restarts after the beacon
+abbrev pub RestartAfterBeacon : Type 0
+RestartAfterBeacon = drop 6 (told two (events_of (go 7 ∷ restarts_node 1 ∷ restarts_node 1 ∷ go 1 ∷ []))) ≡
+    (23, opening_beacon 2 0 (0 ∷ 1 ∷ 2 ∷ [])) ∷ (23, restarted 1) ∷ (23, restarted 1) ∷ (23, silent 0) ∷ []
+
+-- of two requests the later one counts: the last line
+abbrev pub LatestRequest : Type 0
+LatestRequest = drop 12 (told two (events_of (go 2 ∷ asks 1 ∷ asks 0 ∷ go 9 ∷ []))) ≡ (100, steady_beacon 1 0 (0 ∷ 1 ∷ 2 ∷ [])) ∷ []
+
+abbrev pub LatestRequestExchanged : Type 0
+LatestRequestExchanged = drop 12 (told two (events_of (go 2 ∷ asks 0 ∷ asks 1 ∷ go 9 ∷ []))) ≡ (100, steady_beacon 1 1 (0 ∷ 1 ∷ 2 ∷ [])) ∷ []
+
+-- the part of node 1: it sends `m1` in the second round's first slot, and has no task in the idle mode
+abbrev pub NodePart : Type 0
+NodePart = part_of two.plans 1 ≡ record {
+  node = 1;
+  modes =
+      record {
+        hyper = 100;
+        first_round = 1;
+        tasks = record { number = 0; period = 100; offset = 21; wcet = 2 } ∷ [];
+        messages = record { number = 0; role = 1; producers = 0 ∷ []; consumers = [] } ∷ [];
+        rounds = record { start = 0; slots = [] } ∷ record { start = 23; slots = record { slot = 1; message = 0; release = pos 0 } ∷ [] } ∷ [];
+      }
+      ∷ record { hyper = 100; first_round = 3; tasks = []; messages = []; rounds = record { start = 0; slots = [] } ∷ [] } ∷ [];
+}
