@@ -1,33 +1,33 @@
 -- The constraints in force have small bounds, and are few
-use Rattle.std.proofs.Common.{◌≡◌, ℕ, zero, suc, ◌+◌, ◌-◌, ◌*◌, ◌/◌, ◌%◌, ◌<◌, ◌≤◌, Bool, true, false, cond, ltb, List, [], ◌∷◌, ◌++◌, length, get_or, take, map, Contains, refl, sym, ◌∙◌, ap, subst, arith, ◌⊎◌, inl, inr, ⊎_elim, ℤ, pos, negsuc, ◌+ℤ◌, ◌-ℤ◌, ◌*ℤ◌, neg_ℤ, ◌≤ℤ◌, ◌<ℤ◌, length-append}
-use Rattle.std.specs.List.{AllByRecursion, flat_map, sum_by}
+use Rattle.std.proofs.Common.{◌≡◌, ℕ, zero, suc, ◌+◌, ◌-◌, ◌*◌, ◌/◌, ◌<◌, ◌≤◌, true, false, ltb, List, [], ◌∷◌, length, get_or, take, Contains, refl, sym, ◌∙◌, ap, subst, arith, ⊎_elim, ℤ, pos, negsuc, ◌+ℤ◌, ◌-ℤ◌, ◌*ℤ◌, neg_ℤ, ◌≤ℤ◌}
+use Rattle.std.specs.List.{AllByRecursion}
 use Rattle.std.specs.Int.{int_div_euclid}
 use Rattle.std.proofs.lemmas.Int.{ints}
 use Rattle.std.proofs.lemmas.Bool.{cases_lt, cases_Bool, cond-true, cond-false}
-use Rattle.std.proofs.lemmas.Nat.{mod_below, div-add-mod'}
+use Rattle.std.proofs.lemmas.Nat.{div-add-mod'}
 use Rattle.std.proofs.Math.Nat.{mul-le-mul_right}
 use Rattle.std.proofs.lemmas.Nat.Gcd.{le_of_dvd}
-use Rattle.std.proofs.lemmas.List.{length-take-le, get_or-take, length-map}
+use Rattle.std.proofs.lemmas.List.{length-take-le, get_or-take}
 use Rattle.std.proofs.lemmas.List.Elements.{All-from_recursion, All-get_or}
-use borrow.Author.Differences.{up, down, same_in}
+use borrow.Author.Differences.{up, down}
 use Rattle.tick_num.specs.declared.differences.Diff.{Diff}
 use Rattle.tick_num.proofs.Floor.{floor_low, floor_high, sum-times}
-use Rattle.sched_model.specs.Numbers.{below, natural, gcd, span}
-use Rattle.sched_model.specs.PlainMode.{PlainMode, PlainTask, hyper, task_at, message_at, instance_count, instances, most_rounds}
-use Rattle.sched_model.specs.ConstraintProblem.{vars, base, Decision, serve, order, serves, orders, decisions, place, latest, places, alternatives, alternatives_of, chosen, chosen_all, in_force}
+use Rattle.sched_model.specs.Numbers.{natural, gcd, span}
+use Rattle.sched_model.specs.PlainMode.{PlainMode, hyper, task_at, message_at, instance_count}
+use Rattle.sched_model.specs.ConstraintProblem.{base, Decision, serve, order, decisions, place, latest, places, alternatives_of, chosen, chosen_all, in_force}
 use Rattle.sched_model.specs.OpenPrefix.{Chosen}
-use Rattle.sched_model.specs.ProblemLimits.{IsSmall, ProblemFits}
+use Rattle.sched_model.specs.ProblemLimits.{IsSmall}
 use Rattle.sched_model.specs.ValidMode.{IsValid}
 use Rattle.sched_model.specs.ModeLimits.{IsLimited}
-use Rattle.sched_model.proofs.Lists.{all_both, length-below}
-use Rattle.sched_model.proofs.Base.{BaseEach, base_all}
+use Rattle.sched_model.proofs.Lists.{all_both}
+use Rattle.sched_model.proofs.Base.{base_all}
 use Rattle.sched_model.proofs.Graph.{message_edge}
 use Rattle.sched_model.proofs.Spans.{span_bounds}
-use Rattle.sched_model.proofs.Places.{place_fits, decision_at}
+use Rattle.sched_model.proofs.Places.{decision_at}
 use Rattle.sched_model.proofs.Pairs.{gcd_is, gcd_some}
-use Rattle.sched_model.proofs.Hyperperiods.{hyper_some, period_divides}
+use Rattle.sched_model.proofs.Hyperperiods.{period_divides}
 use Rattle.sched_model.proofs.Backward.{sorted_out}
-use Rattle.sched_model.proofs.Variables.{IsOfMode, decisions_of_mode, in_range}
+use Rattle.sched_model.proofs.Variables.{IsOfMode, decisions_of_mode}
 
 -- ---- the constraints of choices, choice by choice
 all_chosen : (P : Diff → Type 0) (m : PlainMode) (r : ℕ) (ds : List Decision) (p : List ℤ) →

@@ -1,21 +1,18 @@
 -- The constraints in force are few
-use Rattle.std.proofs.Common.{◌≡◌, ℕ, zero, suc, ◌+◌, ◌-◌, ◌*◌, ◌/◌, ◌<◌, ◌≤◌, Bool, true, false, cond, ◌&&◌, List, [], ◌∷◌, ◌++◌, length, map, refl, sym, ◌∙◌, ap, subst, arith, ℤ, pos, negsuc, ◌-ℤ◌, length-append, append-nil}
+use Rattle.std.proofs.Common.{◌≡◌, ℕ, zero, suc, ◌+◌, ◌-◌, ◌*◌, ◌<◌, ◌≤◌, Bool, true, false, cond, ◌&&◌, List, [], ◌∷◌, ◌++◌, length, refl, ◌∙◌, ap, arith, ℤ, pos, negsuc, ◌-ℤ◌, length-append, append-nil}
 use Rattle.std.specs.List.{flat_map, sum_by}
 use Rattle.std.proofs.Math.Nat.{mul-le-mul_right}
-use Rattle.std.proofs.lemmas.List.{length-map}
 use Rattle.std.proofs.lemmas.Grind.{flat_map-append}
 use Rattle.std.proofs.lemmas.List.Sums.{sum_by-append}
 use Rattle.tick_num.specs.Differences.{diff}
 use Rattle.sched_model.specs.Numbers.{below}
-use Rattle.sched_model.specs.PlainMode.{PlainMode, hyper, task_at, message_at, instance_count, instances, most_rounds}
+use Rattle.sched_model.specs.PlainMode.{PlainMode, task_at, message_at, instance_count, most_rounds}
 use Rattle.sched_model.specs.TaskGraph.{first, last, reaches}
-use Rattle.sched_model.specs.ConstraintProblem.{vars, task_var, opens_var, closes_var, base, next_round, turn, of_task, of_producer, of_consumer, of_message, of_chain, of_first, Decision, serve, order, serves, share, ordered, orders, decisions, chosen, chosen_all, in_force}
-use Rattle.sched_model.specs.OpenPrefix.{Chosen}
+use Rattle.sched_model.specs.ConstraintProblem.{task_var, opens_var, closes_var, base, next_round, turn, of_task, of_producer, of_consumer, of_message, of_chain, of_first, Decision, serve, order, serves, share, ordered, orders, decisions, chosen, chosen_all, in_force}
 use Rattle.sched_model.specs.ProblemLimits.{IsSmall, ProblemFits}
 use Rattle.sched_model.specs.ValidMode.{IsValid}
 use Rattle.sched_model.specs.ModeLimits.{IsLimited}
 use Rattle.std.proofs.lemmas.List.Elements.{All-from_recursion}
-use Rattle.sched_model.proofs.Lists.{length-below}
 use Rattle.sched_model.proofs.Loads.{flat_below-suc}
 use Rattle.sched_model.proofs.Places.{length-serves}
 use Rattle.sched_model.proofs.Variables.{in_range}
