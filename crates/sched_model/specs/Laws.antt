@@ -5,7 +5,7 @@ use Rattle.sched_model.specs.declared.schedule.Schedule.{Schedule}
 use Rattle.sched_model.specs.declared.trees.TreeNode.{TreeNode}
 use Rattle.sched_model.specs.PlainMode.{PlainMode, plain_mode, plain_at, most_rounds}
 use Rattle.sched_model.specs.Rounds.{Carries}
-use Rattle.sched_model.specs.RightSchedule.{HasShape, RoundsFit, OffsetFits, MessageFits, RunsApart, AllServed, Timely, IsSchedule}
+use Rattle.sched_model.specs.RightSchedule.{HasShape, RoundsFit, OffsetFits, MessageFits, RunsApart, AllServed, Timely, IsSchedule, Fewest, NoSchedule}
 use Rattle.sched_model.specs.OneHyperperiod.{ClassesApart, ServedOnce, EntriesFit}
 use Rattle.sched_model.specs.ConstraintProblem.{in_force}
 use Rattle.sched_model.specs.OpenPrefix.{FullOpen, Open}
@@ -75,6 +75,13 @@ PrintedIsRight = (m : PlainMode) (r : ℕ) → ((s : Schedule) → IsValid m →
 abbrev pub TreesRefute : Type 0
 TreesRefute = (m : PlainMode) (r : ℕ) → IsValid m → ((nodes : List Node) → IsTree m r nodes → (s : Schedule) → IsSchedule m r s → ⊥)
     × ((nodes : List TreeNode) (refs : List ℕ) → ValidTree m r nodes refs → (s : Schedule) → IsSchedule m r s → ⊥)
+
+-- no right schedule has more rounds than a hyperperiod has room for. So a schedule has the fewest rounds where each fewer number has a
+-- valid tree, and there is none where each number that there is room for has one
+abbrev pub TreesShowFewest : Type 0
+TreesShowFewest = (m : PlainMode) → IsValid m → ((r : ℕ) (s : Schedule) → IsSchedule m r s → r ≤ most_rounds m)
+    × ((r : ℕ) (s : Schedule) → IsSchedule m r s → ((q : ℕ) → 1 ≤ q → q < r → (nodes : List Node) × IsTree m q nodes) → Fewest m r)
+    × (((q : ℕ) → 1 ≤ q → q ≤ most_rounds m → (nodes : List Node) × IsTree m q nodes) → NoSchedule m)
 
 -- an own tree is a valid tree
 abbrev pub OwnTreesAreValid : Type 0

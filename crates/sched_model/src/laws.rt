@@ -1,6 +1,6 @@
 //! Laws of schedules and of their search that other crates stand on.
 
-ghost use Rattle.sched_model.specs.Laws.{CostsAreOne, CostsExist, FirstListIsOne, KeptModesAreLimited, KeptModesAreValid, LeadingIsFullOpen, LeastValuesExist, ListsAreSchedules, OneHyperperiodDecides, OwnTreeOrLeads, OwnTreesAreValid, OwnTreesCountVisits, PrintedIsRight, ProblemsFit, SchedulesHaveOneList, SchedulesHaveTimes, SolutionsAreSchedules, TreesRefute};
+ghost use Rattle.sched_model.specs.Laws.{CostsAreOne, CostsExist, FirstListIsOne, KeptModesAreLimited, KeptModesAreValid, LeadingIsFullOpen, LeastValuesExist, ListsAreSchedules, OneHyperperiodDecides, OwnTreeOrLeads, OwnTreesAreValid, OwnTreesCountVisits, PrintedIsRight, ProblemsFit, SchedulesHaveOneList, SchedulesHaveTimes, SolutionsAreSchedules, TreesRefute, TreesShowFewest};
 
 /// Each mode of a set that validation gives is valid.
 pub fn kept_modes_are_valid()
@@ -56,6 +56,12 @@ pub fn printed_is_right()
 /// A valid tree shows that a valid mode has no right schedule of so many rounds.
 pub fn trees_refute()
     ensures { TreesRefute }
+{}
+
+/// Valid trees for all fewer numbers of rounds show that a schedule of a valid mode has the fewest, and valid trees for all numbers
+/// that a hyperperiod has room for show that there is none.
+pub fn trees_show_fewest()
+    ensures { TreesShowFewest }
 {}
 
 /// An own tree is a valid tree.
