@@ -103,6 +103,11 @@ abbrev pub OwnTreesCountVisits : Type 0
 OwnTreesCountVisits = (m : PlainMode) (r : ℕ) → ((nodes : List Node) → IsOwnTree m r nodes → Visited m r (length nodes))
     × ((nodes : List TreeNode) (refs : List ℕ) → OwnTree m r nodes refs → Visited m r (length nodes))
 
+-- the fewest rounds are the first number that leads, and there is no schedule exactly where no number that there is room for leads
+abbrev pub FewestIsFirstToLead : Type 0
+FewestIsFirstToLead = (m : PlainMode) → IsValid m → ((r : ℕ) → 1 ≤ r → Fewest m r ↔ (LeadsAt m r × ((q : ℕ) → 1 ≤ q → q < r → ¬ (LeadsAt m q))))
+    × (NoSchedule m ↔ ((q : ℕ) → 1 ≤ q → q ≤ most_rounds m → ¬ (LeadsAt m q)))
+
 -- a number of rounds has one count of visited prefixes, a mode has one cost, and a budget is spent at one number of rounds
 abbrev pub CostsAreOne : Type 0
 CostsAreOne = (m : PlainMode) → ((r v w : ℕ) → Visited m r v → Visited m r w → v ≡ w) × ((v w : ℕ) → Cost m v → Cost m w → v ≡ w)

@@ -1,6 +1,6 @@
 //! Laws of schedules and of their search that other crates stand on.
 
-ghost use Rattle.sched_model.specs.Laws.{CostsAreOne, CostsExist, FirstListIsOne, KeptModesAreLimited, KeptModesAreValid, LeadingIsFullOpen, LeastValuesExist, ListsAreSchedules, OneHyperperiodDecides, OwnTreeOrLeads, OwnTreesAreValid, OwnTreesCountVisits, PrintedIsRight, ProblemsFit, SchedulesHaveOneList, SchedulesHaveTimes, SolutionsAreSchedules, TreesRefute, TreesShowFewest};
+ghost use Rattle.sched_model.specs.Laws.{CostsAreOne, CostsExist, FewestIsFirstToLead, FirstListIsOne, KeptModesAreLimited, KeptModesAreValid, LeadingIsFullOpen, LeastValuesExist, ListsAreSchedules, OneHyperperiodDecides, OwnTreeOrLeads, OwnTreesAreValid, OwnTreesCountVisits, PrintedIsRight, ProblemsFit, SchedulesHaveOneList, SchedulesHaveTimes, SolutionsAreSchedules, TreesRefute, TreesShowFewest};
 
 /// Each mode of a set that validation gives is valid.
 pub fn kept_modes_are_valid()
@@ -82,6 +82,12 @@ pub fn own_tree_or_leads()
 /// An own tree has a node for each prefix that the search visits.
 pub fn own_trees_count_visits()
     ensures { OwnTreesCountVisits }
+{}
+
+/// The fewest rounds of a valid mode are the first number at which the search finds a full open list; there is no schedule exactly
+/// where it finds none at any number that a hyperperiod has room for.
+pub fn fewest_is_first_to_lead()
+    ensures { FewestIsFirstToLead }
 {}
 
 /// Counts of visited prefixes, costs and the rounds at which a budget is spent are each one number.
