@@ -13,7 +13,7 @@ use Rattle.sched_model.specs.ProblemLimits.{IsSmall, ProblemFits}
 use Rattle.sched_model.specs.ValidMode.{IsValid}
 use Rattle.sched_model.specs.ModeLimits.{IsLimited}
 use Rattle.std.proofs.lemmas.List.Elements.{All-from_recursion}
-use Rattle.sched_model.proofs.Loads.{flat_below-suc}
+use Rattle.sched_model.proofs.Lists.{flat_below-suc}
 use Rattle.sched_model.proofs.Places.{length-serves}
 use Rattle.sched_model.proofs.Variables.{in_range}
 use Rattle.sched_model.proofs.Bounds.{all_small}
@@ -22,7 +22,7 @@ use Rattle.sched_model.proofs.Bounds.{all_small}
 flat_most : {X : Type 0} (f : ℕ → List X) (c n : ℕ) → ((i : ℕ) → i < n → length (f i) ≤ c) → length (flat_map f (below n)) ≤ n * c
 flat_most f c zero h = omega arith
 flat_most f c (suc n) h =
-    let e = ap length (flat_map-append f (below n) (n ∷ []) ∙ ap (λ ys. flat_map f (below n) ++ ys) (append-nil (f n))) ∙ length-append (flat_map f (below n)) (f n) in
+    let e = ap length (flat_below-suc f n) ∙ length-append (flat_map f (below n)) (f n) in
     omega (arith, e, h n (omega arith), flat_most f c n (λ i l. h i (omega (arith, l))))
 
 -- each part has two items
