@@ -21,6 +21,7 @@ pub mod Backward
 pub mod FirstInstances
 pub mod OneTurn
 pub mod SmallModes
+pub mod Decided
 pub mod Fewer
 pub mod CostsExist
 pub mod Lengths

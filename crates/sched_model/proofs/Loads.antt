@@ -4,7 +4,6 @@ use Rattle.std.specs.List.{filter, flat_map}
 use Rattle.std.proofs.lemmas.Bool.{cases_Bool, false_from_ne_true, or_cases, eqb-false, and_parts, and_from, not_from_false, not-true, or_parts, cond-true, cond-false, eq-eqb, eqb-true}
 use Rattle.std.proofs.lemmas.List.{map-append, length-map, get_or-drop, append-nil, length-drop}
 use Rattle.std.proofs.lemmas.List.Elements.{filter-append}
-use Rattle.std.proofs.lemmas.Grind.{flat_map-append}
 use Rattle.sched_model.specs.PlainMode.{PlainMode, message_at, instance_count}
 use Rattle.sched_model.specs.Numbers.{below, has, natural, distinct}
 use Rattle.sched_model.specs.ConstraintProblem.{Decision, serve, order, serves, orders, decisions, choice, load, load_of}

@@ -19,6 +19,7 @@ use Rattle.app_graph.specs.declared.mode_set.Mode.{Mode}
 use Rattle.app_graph.specs.Validation.{KeepsRules}
 use Rattle.sched_model.specs.ModeLimits.{IsLimited}
 use Rattle.sched_model.specs.ProblemLimits.{ProblemFits}
+use Rattle.sched_model.specs.FirstBroken.{Keeps, BreaksFirst}
 use Rattle.sched_model.specs.ValidMode.{IsValid}
 
 -- each mode of a set that keeps the rules of a mode file is valid
@@ -52,6 +53,13 @@ OneHyperperiodDecides = (m : PlainMode) (r : ℕ) (s : Schedule) → IsValid m �
     ((a b : ℕ) → a < length m.tasks → b < length m.tasks → RunsApart m s a b ↔ ClassesApart m s a b)
     × (AllServed m s ↔ ServedOnce m s)
     × (((i g : ℕ) → i < length m.messages → 1 ≤ g → Carries m s i g → Timely m s i g) ↔ EntriesFit m s)
+
+-- a schedule of a mode's shape is right or breaks a first clause, which is one; a right one keeps each clause
+abbrev pub SchedulesAreDecided : Type 0
+SchedulesAreDecided = (m : PlainMode) → IsValid m → (s : Schedule) →
+    (HasShape m (length s.starts) s → IsSchedule m (length s.starts) s ⊎ ((clause : ℕ) × BreaksFirst m s clause))
+    × ((c d : ℕ) → BreaksFirst m s c → BreaksFirst m s d → c ≡ d)
+    × ((r : ℕ) → IsSchedule m r s → (clause : ℕ) → Keeps m s clause)
 
 -- every right schedule has its times from 0 to 2,000,000,000,000
 abbrev pub SchedulesHaveTimes : Type 0

@@ -4,6 +4,7 @@ pub mod TaskGraph
 pub mod Rounds
 pub mod RightSchedule
 pub mod OneHyperperiod
+pub mod FirstBroken
 pub mod ConstraintProblem
 pub mod OpenPrefix
 pub mod SearchCost

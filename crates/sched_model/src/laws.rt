@@ -1,6 +1,6 @@
 //! Laws of schedules and of their search that other crates stand on.
 
-ghost use Rattle.sched_model.specs.Laws.{CostsAreOne, CostsExist, FewestIsFirstToLead, FirstListIsOne, KeptModesAreLimited, KeptModesAreValid, LeadingIsFullOpen, LeastValuesExist, ListsAreSchedules, OneHyperperiodDecides, OwnTreeOrLeads, OwnTreesAreValid, OwnTreesCountVisits, PrintedIsRight, ProblemsFit, SchedulesHaveOneList, SchedulesHaveTimes, SolutionsAreSchedules, TreesRefute, TreesShowFewest};
+ghost use Rattle.sched_model.specs.Laws.{CostsAreOne, CostsExist, FewestIsFirstToLead, FirstListIsOne, KeptModesAreLimited, KeptModesAreValid, LeadingIsFullOpen, LeastValuesExist, ListsAreSchedules, OneHyperperiodDecides, OwnTreeOrLeads, OwnTreesAreValid, OwnTreesCountVisits, PrintedIsRight, ProblemsFit, SchedulesAreDecided, SchedulesHaveOneList, SchedulesHaveTimes, SolutionsAreSchedules, TreesRefute, TreesShowFewest};
 
 /// Each mode of a set that validation gives is valid.
 pub fn kept_modes_are_valid()
@@ -31,6 +31,11 @@ pub fn solutions_are_schedules()
 /// are finite tests of one hyperperiod.
 pub fn one_hyperperiod_decides()
     ensures { OneHyperperiodDecides }
+{}
+
+/// A schedule of a valid mode's shape is right or breaks a first clause, and not both.
+pub fn schedules_are_decided()
+    ensures { SchedulesAreDecided }
 {}
 
 /// Every right schedule of a valid mode has its times from 0 to 2,000,000,000,000.
