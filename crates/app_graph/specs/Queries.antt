@@ -38,15 +38,17 @@ pub record Times (app : App) : Type 0 where
 abbrev pub latest : App → Task → ℤ
 latest app t = app.period -ℤ pos 1 +ℤ app.deadline -ℤ t.wcet
 
--- that of the first task with the number, of some tasks, of some applications, of some modes
+-- that of the first of the tasks with the number
 abbrev pub offset_in_app : ℕ → App → List Task → Option ℤ
 offset_in_app task app [] = None
 offset_in_app task app (t ∷ ts) = if nat_eq t.number task then Some (latest app t) else offset_in_app task app ts
 
+-- the same over applications
 abbrev pub offset_in_apps : ℕ → List App → Option ℤ
 offset_in_apps task [] = None
 offset_in_apps task (a ∷ apps) = option_or (offset_in_app task a a.tasks) (offset_in_apps task apps)
 
+-- the same over modes
 abbrev pub offset_in_modes : ℕ → List Mode → Option ℤ
 offset_in_modes task [] = None
 offset_in_modes task (m ∷ modes) = option_or (offset_in_apps task m.apps) (offset_in_modes task modes)
