@@ -21,6 +21,10 @@ pub mod Backward
 pub mod FirstInstances
 pub mod OneTurn
 pub mod SmallModes
+pub mod Fewer
+pub mod CostsExist
+pub mod Lengths
+pub mod Bounds
 pub mod ModeNumbers
 pub mod LimitedModes
 pub mod Sizes

@@ -55,13 +55,13 @@ leads_open m r zero p o = o
 leads_open m r (suc n) p l = l.0
 
 -- a leaf is not open
-short_closed : (m : PlainMode) (r : ℕ) (p : List ℤ) → r * m.slots < instances m → Open m r p → ⊥
+pub short_closed : (m : PlainMode) (r : ℕ) (p : List ℤ) → r * m.slots < instances m → Open m r p → ⊥
 short_closed m r p h o = omega (arith, h, o.slots)
 
-full_closed : (m : PlainMode) (r j : ℕ) (p : List ℤ) → 1 ≤ j → j ≤ r → m.slots < load m r (j - 1) p → Open m r p → ⊥
+pub full_closed : (m : PlainMode) (r j : ℕ) (p : List ℤ) → 1 ≤ j → j ≤ r → m.slots < load m r (j - 1) p → Open m r p → ⊥
 full_closed m r j p a b h o = omega (arith, h, o.loads (j - 1) (omega (arith, a, b)))
 
-cycle_closed : (m : PlainMode) (r : ℕ) (p : List ℤ) (refs : List ℕ) → NegativeCycle (in_force m r p) refs → Open m r p → ⊥
+pub cycle_closed : (m : PlainMode) (r : ℕ) (p : List ℤ) (refs : List ℕ) → NegativeCycle (in_force m r p) refs → Open m r p → ⊥
 cycle_closed m r p refs h o = cycles_exclude (in_force m r p) refs h o.values.0 o.values.1
 
 pub tree_excludes : (m : PlainMode) (r n : ℕ) (p : List ℤ) (nodes rest : List Node) → ValidFrom m r n p nodes rest → Leads m r n p → ⊥
@@ -101,7 +101,7 @@ tree_count m r n p (cycle refs ∷ nodes) rest t = (1, leaf_visit m r n p (cycle
 
 -- ---- one or the other
 -- the first of n rounds that is chosen too often
-find_full : (m : PlainMode) (r : ℕ) (p : List ℤ) (n : ℕ) → Roomy m r n p ⊎ ((j : ℕ) × (j < n) × Roomy m r j p × (m.slots < load m r j p))
+pub find_full : (m : PlainMode) (r : ℕ) (p : List ℤ) (n : ℕ) → Roomy m r n p ⊎ ((j : ℕ) × (j < n) × Roomy m r j p × (m.slots < load m r j p))
 find_full m r p zero = inl (λ j l. absurd (omega (arith, l)))
 find_full m r p (suc n) =
     ⊎_elim
@@ -143,7 +143,7 @@ module _ (m : PlainMode) (r : ℕ) (ok : IsValid m) (some : 1 ≤ r) where
       (find_full m r p r))
       (cases_lt (r * m.slots) (instances m))
 
-  tree_or_leads : (n : ℕ) (p : List ℤ) → Grows (OwnFrom m r n p) ⊎ Leads m r n p
+  pub tree_or_leads : (n : ℕ) (p : List ℤ) → Grows (OwnFrom m r n p) ⊎ Leads m r n p
   tree_or_leads zero p = leaf_or_open zero p
   tree_or_leads (suc n) p =
       ⊎_elim

@@ -34,7 +34,7 @@ pub record IsTask (A : RawApp) (u : RawTask) (t : ℕ) (x : TaskOfApp) : Type 0 
   pub deadline : x.app.deadline ≡ A.deadline
 
 module _ (nodes : List (List ℕ)) where
-  length-tasks : (t : ℕ) (us : List RawTask) → length (tasks_from nodes t us) ≡ length us
+  pub length-tasks : (t : ℕ) (us : List RawTask) → length (tasks_from nodes t us) ≡ length us
   length-tasks t [] = refl
   length-tasks t (u ∷ us) = ap suc (length-tasks (t + 1) us)
 
@@ -135,11 +135,11 @@ pub record IsMessage (ts : List TaskOfApp) (A : RawApp) (k t n : ℕ) (u : RawMe
   pub from : x.from ≡ map (place_of ts) (numbers_of (t + k) A.tasks u.from)
   pub to : x.to ≡ map (place_of ts) (numbers_of (t + k) A.tasks u.to)
 
-module _ (nodes : List (List ℕ)) (ts : List TaskOfApp) where
-  length-messages : (t m : ℕ) (us : List RawTask) (ms : List RawMessage) → length (messages_from t us m ms) ≡ length ms
-  length-messages t m us [] = refl
-  length-messages t m us (u ∷ ms) = ap suc (length-messages t (m + 1) us ms)
+pub length-messages : (t m : ℕ) (us : List RawTask) (ms : List RawMessage) → length (messages_from t us m ms) ≡ length ms
+length-messages t m us [] = refl
+length-messages t m us (u ∷ ms) = ap suc (length-messages t (m + 1) us ms)
 
+module _ (nodes : List (List ℕ)) (ts : List TaskOfApp) where
   abbrev plain : RawApp → Message → PlainMessage
   plain a u = record { number = u.number; period = unsigned_abs a.period; deadline = unsigned_abs a.deadline; from = map (place_of ts) u.from; to = map (place_of ts) u.to }
 

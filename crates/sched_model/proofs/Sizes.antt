@@ -14,6 +14,7 @@ use Rattle.app_graph.specs.declared.mode_set.ModeSet.{ModeSet}
 use Rattle.app_graph.specs.Numbering.{tasks_from, messages_from, apps_from}
 use Rattle.sched_model.specs.Numbers.{below}
 use Rattle.sched_model.specs.PlainMode.{PlainMessage, TaskOfApp, hyper, no_message, instance_count, instances, tasks_of, place_of, plain_messages, plain_mode}
+use Rattle.sched_model.proofs.PlainPlaces.{length-tasks, length-messages}
 
 sum_by-cons : {X : Type 0} (f : X → ℕ) (x : X) (xs : List X) → sum_by f (x ∷ xs) ≡ f x + sum_by f xs
 sum_by-cons f x xs = let e = sum_by-append f (x ∷ []) xs in omega (arith, e)
@@ -57,14 +58,6 @@ instances_by_app set mode =
 
 -- ---- as in the file
 module _ (nodes : List (List ℕ)) where
-  length-tasks : (t : ℕ) (us : List RawTask) → length (tasks_from nodes t us) ≡ length us
-  length-tasks t [] = refl
-  length-tasks t (u ∷ us) = ap suc (length-tasks (t + 1) us)
-
-  length-messages : (t n : ℕ) (us : List RawTask) (ms : List RawMessage) → length (messages_from t us n ms) ≡ length ms
-  length-messages t n us [] = refl
-  length-messages t n us (u ∷ ms) = ap suc (length-messages t (n + 1) us ms)
-
   pub task_total : (i t n : ℕ) (apps : List RawApp) → length (tasks_of i (apps_from nodes t n apps)) ≡ length (flat_map (λ (a : RawApp). a.tasks) apps)
   task_total i t n [] = refl
   task_total i t n (a ∷ apps) =
@@ -76,7 +69,7 @@ module _ (nodes : List (List ℕ)) where
         length-append here (tasks_of (suc i) (apps_from nodes (t + length a.tasks) (n + length a.messages) apps)),
         length-append a.tasks (flat_map (λ (x : RawApp). x.tasks) apps),
         length-map (tasks_from nodes t a.tasks) (in_app i app),
-        length-tasks t a.tasks,
+        length-tasks nodes t a.tasks,
         rest,
       )
 

@@ -13,5 +13,6 @@ pub mod TimeLimits
 pub mod RefutationTree
 pub mod ValidMode
 pub mod ModeLimits
+pub mod ProblemLimits
 pub mod Laws
 pub mod Examples

@@ -85,6 +85,7 @@ abbrev pub place_of : List TaskOfApp → ℕ → ℕ
 place_of [] number = 0
 place_of (t ∷ ts) number = cond (nat_eq t.task.number number) 0 (suc (place_of ts number))
 
+-- the task in plain numbers
 abbrev pub plain_task : TaskOfApp → PlainTask
 plain_task t = record { number = t.task.number; app = t.place; node = t.task.node; wcet = unsigned_abs t.task.wcet; period = unsigned_abs t.app.period; deadline = unsigned_abs t.app.deadline }
 
