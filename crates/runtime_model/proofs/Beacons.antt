@@ -276,14 +276,14 @@ module _ (y : System) (right : AllRight y) where
   -- consecutive beacons are at most the gap apart
   pub beacon_gap : (es : List PlainEvent) (rf : RequestsFit y es) (lost : ℕ) (g : Step) → is_beacon (step_of y (advance lost) (history y es)).out ≡ true → last_beacon (history y es) ≡ Some g →
       moment y (step_of y (advance lost) (history y es)) ≤ moment y g + gap_of_mode y g.spot.hyper.mode
-  beacon_gap es rf lost g opens_round before =
+  beacon_gap es rf lost g rings before =
       let ds = history y es in
       let s = spot_next y ds in
       let md = s.hyper.mode in
       let p = plan_at y md in
       let e = entry_at y s in
       let k = right (advance lost ∷ es) rf in
-      let here = sym (outcome_is y p s lost ds e.tick e.action) ∙ opens_round in
+      let here = sym (outcome_is y p s lost ds e.tick e.action) ∙ rings in
       let w = seen_entry e.action here in
       let is : Is y md s.index e.tick (beacon w.0) = (index_now es rf lost, ap (λ (z : Action). record { tick = e.tick; action = z }) w.1) in
       let at = (subst (λ (x : Entry). RightAt p x.tick x.action) is.1 (entry_right y.nodes p s.index is.0).1) in

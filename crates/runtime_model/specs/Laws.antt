@@ -1,7 +1,7 @@
 -- Laws of the runtime, over every list of events
-use Rattle.std.specs.Prelude.{◌≡◌, ℕ, suc, ◌+◌, ◌*◌, ◌<◌, ◌≤◌, ◌↔◌, true, false, List, [], ◌∷◌, length, Contains, Option, Some, None, ℤ}
+use Rattle.std.specs.Prelude.{◌≡◌, ℕ, suc, ◌+◌, ◌*◌, ◌<◌, ◌≤◌, ◌↔◌, ◌⊎◌, true, false, List, [], ◌∷◌, length, Contains, Option, Some, None, ℤ}
 use Rattle.sched_model.specs.PlainMode.{hyper, task_at, message_at}
-use Rattle.runtime_model.specs.Timeline.{drains}
+use Rattle.runtime_model.specs.Timeline.{steady, drains}
 use Rattle.runtime_model.specs.HostCalls.{HostCall, AllMay, call_state, host_after, after_call}
 use Rattle.runtime_model.specs.Plans.{Plan, RightPlan, Carried, node_of, offset}
 use Rattle.runtime_model.specs.Entries.{slot, task_starts}
@@ -100,3 +100,11 @@ abbrev pub OneRunAtATime : Type 0
 OneRunAtATime = (y : System) (es : List PlainEvent) (lost v b k : ℕ) (ins : List (Option ℤ)) (x : ℤ) →
     let s = spot_next y (history y es) in
     RightPlan y.nodes (plan_at y s.hyper.mode) → (step_of y (advance lost) (history y es)).out ≡ started v b k ins x → running v s.stay (history y es) ≡ None
+
+-- a node that heard the last beacon, which announced no change, is in a steady hyperperiod; the next Advance stands in the same stay and mode,
+-- in the same hyperperiod or in one that does not open
+abbrev pub SettledNodesKnow : Type 0
+SettledNodesKnow = (y : System) (v : ℕ) (es : List PlainEvent) → settled v (history y es) ≡ true →
+    let l = last_spot (history y es) in
+    let s = spot_next y (history y es) in
+    (l.hyper.phase ≡ steady) × (s.stay ≡ l.stay) × (s.hyper.mode ≡ l.hyper.mode) × ((s.turn ≡ l.turn) ⊎ (s.hyper.opening ≡ false))
