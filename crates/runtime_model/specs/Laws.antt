@@ -108,3 +108,10 @@ SettledNodesKnow = (y : System) (v : ℕ) (es : List PlainEvent) → settled v (
     let l = last_spot (history y es) in
     let s = spot_next y (history y es) in
     (l.hyper.phase ≡ steady) × (s.stay ≡ l.stay) × (s.hyper.mode ≡ l.hyper.mode) × ((s.turn ≡ l.turn) ⊎ (s.hyper.opening ≡ false))
+
+-- nothing is lost and nobody restarts in these events
+abbrev pub Lossless : List PlainEvent → Type 0
+Lossless [] = Unit {0}
+Lossless (advance lost ∷ es) = (lost ≡ 0) × Lossless es
+Lossless (request m ∷ es) = Lossless es
+Lossless (restart v ∷ es) = ⊥

@@ -1,0 +1,137 @@
+-- What happens where nothing is lost and nobody restarts
+use Rattle.std.proofs.Common.{◌≡◌, ℕ, zero, suc, ◌+◌, ◌*◌, ◌/◌, ◌%◌, ◌^◌, ◌<◌, ◌≤◌, Bool, true, false, cond, not, ◌&&◌, ◌||◌, List, [], ◌∷◌, ◌++◌, length, length-append, get_or, Contains, refl, sym, ◌∙◌, ap, subst, arith, ◌⊎◌, inl, inr, ⊎_elim, ℤ, pos}
+use Rattle.std.specs.Prelude.{nat_eq, Option, Some, None}
+use Rattle.std.specs.List.{filter}
+use Rattle.std.proofs.lemmas.Bool.{cases_lt, cases_Bool, cond-true, cond-false, eqb-true, eq-eqb, and_parts}
+use Rattle.std.proofs.lemmas.List.{get_or_append_left, get_or-append-add}
+use Rattle.std.proofs.lemmas.List.Elements.{filter-append}
+use Rattle.sched_model.specs.Numbers.{below, has, natural}
+use Rattle.sched_model.specs.PlainMode.{task_at}
+use Rattle.sched_model.specs.Rounds.{round_start}
+use Rattle.sched_model.proofs.Graph.{contains_has}
+use Rattle.runtime_model.specs.Plans.{Plan, RightPlan, node_of, offset}
+use Rattle.runtime_model.specs.Entries.{Entry, Action, task_ends, beacon, slot, task_starts}
+use Rattle.runtime_model.specs.Placement.{placed, own_start, run_at, ends_run, ending_run_at}
+use Rattle.runtime_model.specs.Outcomes.{PlainEvent, advance, request, restart, Outcome, Spot, Step, is_beacon, hears, restarts, begun_run, ended_run}
+use Rattle.runtime_model.specs.LookingBack.{synced, coasts, runs, recall, or_else, last_beacon}
+use Rattle.runtime_model.specs.System.{System, plan_at, body_at, state}
+use Rattle.runtime_model.specs.Packets.{in_set, reached, packet}
+use Rattle.runtime_model.specs.Inputs.{inputs}
+use Rattle.runtime_model.specs.History.{history, step_of, spot_next, last_spot, next_place, entries, entry_at, performed, sent_or_not, start_or_not, finished_or_not}
+use Rattle.runtime_model.specs.Script.{opens_round}
+use Rattle.runtime_model.specs.Laws.{RequestsFit, Lossless}
+use Rattle.runtime_model.proofs.Cycles.{none, entry_right, RightAt, key, key_order, rank}
+use Rattle.runtime_model.proofs.Spots.{Same, Within, Opens, Moves, moves, stands}
+use Rattle.runtime_model.proofs.Modes.{AllRight}
+use Rattle.runtime_model.proofs.Beacons.{outcome_is, seen_entry, Seen, Unseen, seen_or_not, some, not_unseen, beacon_place, index_now}
+use Rattle.runtime_model.proofs.TaskTimes.{TaskFits}
+use Rattle.runtime_model.proofs.Registers.{found_again, found_now}
+use Rattle.runtime_model.proofs.OutRegisters.{Is, H, P, E, BeforeSpot, Before, Released, step_back, same_mode, released_back, time_order, run_is, ending_is, start_place, end_place, is_placed, performed_is, split_before, both_true}
+
+-- ---- everybody hears
+no_bit : (v : ℕ) → in_set 0 v ≡ false
+no_bit v = ap (λ n. nat_eq (n % 2) 1) (none_of (2 ^ v))
+  where
+    none_of : (n : ℕ) → 0 / n ≡ 0
+    none_of n = grind arith
+
+kept : (t : ℕ → Bool) (n v : ℕ) → v < n → t v ≡ true → Contains (filter t (below n)) v
+kept t zero v l e = absurd (omega (arith, l))
+kept t (suc n) v l e =
+    subst (λ (xs : List ℕ). Contains xs v) (sym (filter-append t (below n) (n ∷ [])))
+      (⊎_elim
+        (λ (less : v < n).
+          let c = kept t n v less e in
+          (c.0, omega (arith, c.1, length-append (filter t (below n)) (filter t (n ∷ []))), get_or_append_left (filter t (below n)) (filter t (n ∷ [])) v c.0 c.1 ∙ c.2))
+        (λ (ge : n ≤ v).
+          let same : n ≡ v = omega (arith, ge, l) in
+          let last : filter t (n ∷ []) ≡ v ∷ [] = cond-true (t n) (n ∷ []) [] (ap t same ∙ e) ∙ ap (λ z. z ∷ []) same in
+          let size = ap (λ (xs : List ℕ). length xs) last in
+          (length (filter t (below n)), omega (arith, size, length-append (filter t (below n)) (filter t (n ∷ []))),
+            (let q : length (filter t (below n)) ≡ length (filter t (below n)) + 0 = omega arith in ap (λ z. get_or (filter t (below n) ++ filter t (n ∷ [])) z v) q) ∙ get_or-append-add (filter t (below n)) (filter t (n ∷ [])) 0 v ∙ ap (λ (xs : List ℕ). get_or xs 0 v) last))
+        (cases_lt v n))
+
+all_hear : (host v n : ℕ) → v < n → has (filter (reached 0 host) (below n)) v ≡ true
+all_hear host v n l = contains_has (filter (reached 0 host) (below n)) v (kept (reached 0 host) n v l (either (nat_eq v host) (in_set 0 v) (no_bit v)))
+  where
+    either : (a b : Bool) → b ≡ false → (a || not b) ≡ true
+    either true b e = refl
+    either false true e = absurd cc
+    either false false e = refl
+
+-- an entry restarts nobody
+stays_up : (y : System) (p : Plan) (s : Spot) (lost v : ℕ) (ds : List Step) (u : ℕ) (w : Action) → restarts v (performed y p s lost ds u w) ≡ false
+stays_up y p s lost v ds u (task_ends a) = of_end (cond (ends_run p s.turn u a) (recall (node_of p a) s.stay (begun_run a (ending_run_at p s.turn u a)) ds) None)
+  where
+    of_end : (o : Option ℤ) → restarts v (finished_or_not (node_of p a) a (ending_run_at p s.turn u a) o) ≡ false
+    of_end None = refl
+    of_end (Some x) = refl
+stays_up y p s lost v ds u (beacon j) = refl
+stays_up y p s lost v ds u (slot j i) = of_slot (packet p s j i ds)
+  where
+    of_slot : (o : Option (List ℤ)) → restarts v (sent_or_not p y.nodes s j i ds o lost) ≡ false
+    of_slot None = refl
+    of_slot (Some x) = refl
+stays_up y p s lost v ds u (task_starts a) = of_start (placed s.hyper.opening s.hyper.phase (own_start p u a) && runs (node_of p a) ds)
+  where
+    of_start : (o : Bool) → restarts v (start_or_not y p s ds a u o) ≡ false
+    of_start true = refl
+    of_start false = refl
+
+-- every node heard the last beacon, where there was one
+all_synced : (y : System) (es : List PlainEvent) (v : ℕ) → Lossless es → v < y.nodes → (g : Step) → last_beacon (history y es) ≡ Some g → synced v (history y es) ≡ true
+all_synced y [] v q l g e = absurd (grind (arith, e))
+all_synced y (request m ∷ es) v q l g e = all_synced y es v q l g e
+all_synced y (restart w ∷ es) v q l g e = absurd q
+all_synced y (advance lost ∷ es) v q l g e =
+    let ds = history y es in
+    let s = spot_next y ds in
+    let p = plan_at y s.hyper.mode in
+    let entry = entry_at y s in
+    let d = step_of y (advance lost) ds in
+    let up = stays_up y p s lost v ds entry.tick entry.action in
+    let is = outcome_is y p s lost ds entry.tick entry.action in
+    ⊎_elim
+      (λ (rings : opens_round entry.action ≡ true).
+        let j = seen_entry entry.action rings in
+        let heard = ap (λ (w : Action). hears v (performed y p s lost ds entry.tick w)) j.1 ∙ ap (λ z. has (filter (reached z y.host) (below y.nodes)) v) q.0 ∙ all_hear y.host v y.nodes l in
+        by_tests (restarts v d.out) (is_beacon d.out) (hears v d.out) (synced v ds) up (is ∙ rings) heard)
+      (λ (quiet : opens_round entry.action ≡ false).
+        let no_beacon = is ∙ quiet in
+        let before = all_synced y es v q.1 l g (sym (cond-false (is_beacon d.out) (Some d) (last_beacon ds) no_beacon) ∙ e) in
+        by_no_tests (restarts v d.out) (is_beacon d.out) (hears v d.out) (synced v ds) up no_beacon before)
+      (cases_Bool (opens_round entry.action))
+  where
+    by_tests : (r b h x : Bool) → r ≡ false → b ≡ true → h ≡ true → cond r false (cond b h x) ≡ true
+    by_tests false true true x r b h = refl
+    by_tests false true false x r b h = absurd cc
+    by_tests false false h x r b k = absurd cc
+    by_tests true b h x r c k = absurd cc
+    by_no_tests : (r b h x : Bool) → r ≡ false → b ≡ false → x ≡ true → cond r false (cond b h x) ≡ true
+    by_no_tests false false h true r b e = refl
+    by_no_tests false false h false r b e = absurd cc
+    by_no_tests false true h x r b e = absurd cc
+    by_no_tests true b h x r c e = absurd cc
+
+synced_runs : (v : ℕ) (ds : List Step) → synced v ds ≡ true → runs v ds ≡ true
+synced_runs v ds e = ap (λ (b : Bool). b || coasts v ds) e
+
+-- after the first beacon of a hyperperiod there was one
+beacon_heard : (y : System) (right : AllRight y) (es : List PlainEvent) (lost : ℕ) → RequestsFit y es → 2 ≤ key (entry_at y (spot_next y (history y es))) → (g : Step) × (last_beacon (history y es) ≡ Some g)
+beacon_heard y right es lost rf l =
+    let ds = history y es in
+    let s = spot_next y ds in
+    let md = s.hyper.mode in
+    let p = plan_at y md in
+    let ok = right (advance lost ∷ es) rf in
+    let origin = beacon_place y md ok 0 (omega (arith, ok.right.shape.some, ok.right.shape.starts)) in
+    let zero_tick = ap natural ok.right.s1.begin in
+    let first = key_order y.nodes p origin.0 s.index origin.1.0 (index_now y right es rf lost) (omega (arith, ap key origin.1.1, zero_tick, l)) in
+    let turned = λ (index : s.index ≡ 0). absurd (omega (arith, first, index)) in
+    ⊎_elim
+      (λ (m : Same y ds s). ⊎_elim
+        (λ (h : Seen y ds). (h.done, h.is_last))
+        (λ (u : Unseen y ds). absurd (not_unseen y right es rf u origin.0 0 (natural (round_start p.schedule 0)) (subst (λ (z : ℕ). Is y z origin.0 (natural (round_start p.schedule 0)) (beacon 0)) m.alike.mode origin.1) (omega (arith, first, m.index))))
+        (seen_or_not y (some y right) es rf))
+      (λ r. ⊎_elim (λ (m : Within y ds s). turned m.index) (λ (m : Opens y ds s). turned m.index) r)
+      (moves y ds (stands y es))
