@@ -135,3 +135,124 @@ beacon_heard y right es lost rf l =
         (seen_or_not y (some y right) es rf))
       (λ r. ⊎_elim (λ (m : Within y ds s). turned m.index) (λ (m : Opens y ds s). turned m.index) r)
       (moves y ds (stands y es))
+
+-- ---- what was passed in this stay was performed
+still_some : (b : Bool) (d : Step) (o : Option Step) → ((g : Step) × (o ≡ Some g)) → (g : Step) × (cond b (Some d) o ≡ Some g)
+still_some true d o h = (d, refl)
+still_some false d o h = h
+
+-- an earlier entry of the stay stands in the same stay as the last event
+same_stay : (y : System) (ds : List Step) (s : Spot) (n i : ℕ) → Moves y ds s → BeforeSpot s n i → s.stay ≡ (last_spot ds).stay
+same_stay y ds s n i m b =
+    ⊎_elim (λ (h : Same y ds s). h.stay)
+      (λ r. ⊎_elim (λ (h : Within y ds s). h.stay)
+        (λ (h : Opens y ds s). absurd (⊎_elim (λ (x : n < s.turn). omega (arith, x, h.turn)) (λ (x : (n ≡ s.turn) × (i < s.index)). omega (arith, x.1, h.index)) b)) r)
+      m
+
+module _ (y : System) (right : AllRight y) (md st : ℕ) where
+  abbrev There : ℕ → ℕ → ℕ → List PlainEvent → ℕ → Type 0
+  There n i x es lost = let s = spot_next y (history y es) in
+      RequestsFit y es × Lossless (advance lost ∷ es) × (s.stay ≡ st) × (s.hyper.mode ≡ md) × (s.turn ≡ n) × (s.index ≡ i) × Released (plan_at y md) s x
+
+  abbrev Passed : ℕ → ℕ → ℕ → List PlainEvent → Type 0
+  Passed n i x es = let l = last_spot (history y es) in
+      RequestsFit y es × Lossless es × (l.stay ≡ st) × (l.hyper.mode ≡ md) × Released (plan_at y md) l x × Before (history y es) n i
+
+  -- what the entry at place i of hyperperiod n gives is found, once it is past
+  visited : {X : Type 0} (n i x v : ℕ) (f : Outcome → Option X) → v < y.nodes → i < length (entries y md) →
+      ((es : List PlainEvent) (lost : ℕ) → There n i x es lost → ((z : X) × (f (step_of y (advance lost) (history y es)).out ≡ Some z)) × ((g : Step) × (last_beacon (history y (advance lost ∷ es)) ≡ Some g))) →
+      (es : List PlainEvent) → Passed n i x es → ((z : X) × (recall v st f (history y es) ≡ Some z)) × ((g : Step) × (last_beacon (history y es) ≡ Some g))
+  visited n i x v f lv li hit [] w = absurd (⊎_elim (λ (q : n < 0). omega (arith, q)) (λ (q : (n ≡ 0) × (i < 0)). omega (arith, q.1)) w.5)
+  visited n i x v f lv li hit (request m ∷ es) w =
+      let ds = history y es in
+      let d = step_of y (request m) ds in
+      let r = visited n i x v f lv li hit es (w.0.1, w.1, w.2, w.3, w.4, w.5) in
+      let up = synced_runs v (d ∷ ds) (all_synced y (request m ∷ es) v w.1 lv r.1.0 r.1.1) in
+      (found_again (runs v (d ∷ ds) && nat_eq d.spot.stay st) (f d.out) (recall v st f ds) (both_true (runs v (d ∷ ds)) (nat_eq d.spot.stay st) up (eq-eqb d.spot.stay st w.2)) r.0, r.1)
+  visited n i x v f lv li hit (restart q ∷ es) w = absurd w.1
+  visited n i x v f lv li hit (advance lost ∷ es) w =
+      let ds = history y es in
+      let s = spot_next y ds in
+      let d = step_of y (advance lost) ds in
+      let mv = moves y ds (stands y es) in
+      ⊎_elim
+        (λ (at : (n ≡ s.turn) × (i ≡ s.index)).
+          let h = hit es lost (w.0, w.1, w.2, w.3, sym at.0, sym at.1, w.4) in
+          let up = synced_runs v (d ∷ ds) (all_synced y (advance lost ∷ es) v w.1 lv h.1.0 h.1.1) in
+          ((h.0.0, found_now (runs v (d ∷ ds) && nat_eq s.stay st) (f d.out) (recall v st f ds) h.0.0 (both_true (runs v (d ∷ ds)) (nat_eq s.stay st) up (eq-eqb s.stay st w.2)) h.0.1), h.1))
+        (λ (before : BeforeSpot s n i).
+          let same = same_stay y ds s n i mv before in
+          let mode = same_mode y ds s mv same ∙ w.3 in
+          let r = visited n i x v f lv li hit es (w.0, w.1.1, sym same ∙ w.2, mode, released_back y (plan_at y md) ds s x mv same w.4,
+            step_back y ds s n i mv same (subst (λ (z : ℕ). i < length (entries y z)) (sym mode) li) before) in
+          let last = still_some (is_beacon d.out) d (last_beacon ds) r.1 in
+          let up = synced_runs v (d ∷ ds) (all_synced y (advance lost ∷ es) v w.1 lv last.0 last.1) in
+          (found_again (runs v (d ∷ ds) && nat_eq s.stay st) (f d.out) (recall v st f ds) (both_true (runs v (d ∷ ds)) (nat_eq s.stay st) up (eq-eqb s.stay st w.2)) r.0, last))
+        (split_before n s.turn i s.index w.5)
+
+  module _ (a k : ℕ) (fit : TaskFits y.nodes (plan_at y md) a) where
+    abbrev p : Plan
+    p = plan_at y md
+
+    some_entries : 1 ≤ length (entries y md)
+    some_entries = let w = start_place y md a fit 0 in omega (arith, w.3.0)
+
+    -- the start of run k
+    start_hit : (es : List PlainEvent) (lost : ℕ) → let w = start_place y md a fit k in There w.0 w.1 (k * P p a) es lost →
+        ((z : ℤ) × (begun_run a k (step_of y (advance lost) (history y es)).out ≡ Some z)) × ((g : Step) × (last_beacon (history y (advance lost ∷ es)) ≡ Some g))
+    start_hit es lost t =
+        let w = start_place y md a fit k in
+        let ds = history y es in
+        let s = spot_next y ds in
+        let d = step_of y (advance lost) ds in
+        let u = w.2 in
+        let v = node_of p a in
+        let out = performed_is y md a fit some_entries ds lost w.1 u (task_starts a) t.3 (sym t.5) w.3 in
+        let entry = ap (λ (z : ℕ). get_or (entries y z) s.index none) t.3 ∙ ap (λ (z : ℕ). get_or (entries y md) z none) t.5 ∙ w.3.1 in
+        let heard = beacon_heard y right es lost t.0 (omega (arith, ap key entry)) in
+        let running = synced_runs v ds (all_synced y es v t.1.1 fit.on_node heard.0 heard.1) in
+        let time : s.turn * H y md + u ≡ offset p a + k * P p a = ap (λ z. z * H y md + u) t.4 ∙ w.4 in
+        let ok = placed s.hyper.opening s.hyper.phase (own_start p u a) in
+        let may = both_true ok (runs v ds) (is_placed y md a fit s u k (stands y (advance lost ∷ es)).turn time t.6) running in
+        let out' = out ∙ ap (start_or_not y p s ds a u) may in
+        let number = (task_at p.mode a).number in
+        let k' = run_at p s.turn u a in
+        let ins = inputs p s.stay a k' ds in
+        let ans = (body_at y (y.body_of number)).answer (state y (y.body_of number) ds) number ins in
+        let says = ap (begun_run a k) out' ∙ cond-true (nat_eq a a && nat_eq k' k) (Some ans) None (both_true (nat_eq a a) (nat_eq k' k) (eq-eqb a a refl) (eq-eqb k' k (run_is y md a fit s.turn u k time))) in
+        ((ans, says), still_some (is_beacon d.out) d (last_beacon ds) heard)
+
+    -- run k was started, once its start is past
+    was_started : (es : List PlainEvent) → let w = start_place y md a fit k in Passed w.0 w.1 (k * P p a) es → ((z : ℤ) × (recall (node_of p a) st (begun_run a k) (history y es) ≡ Some z)) × ((g : Step) × (last_beacon (history y es) ≡ Some g))
+    was_started es t = let w = start_place y md a fit k in visited w.0 w.1 (k * P p a) (node_of p a) (begun_run a k) fit.on_node w.3.0 start_hit es t
+
+    -- the end of run k
+    end_hit : (es : List PlainEvent) (lost : ℕ) → let w = end_place y md a fit k in There w.0 w.1 (k * P p a) es lost →
+        ((z : ℤ) × (ended_run a k (step_of y (advance lost) (history y es)).out ≡ Some z)) × ((g : Step) × (last_beacon (history y (advance lost ∷ es)) ≡ Some g))
+    end_hit es lost t =
+        let w = end_place y md a fit k in
+        let b = start_place y md a fit k in
+        let ds = history y es in
+        let s = spot_next y ds in
+        let d = step_of y (advance lost) ds in
+        let mv = moves y ds (stands y es) in
+        let u = w.2 in
+        let v = node_of p a in
+        let out = performed_is y md a fit some_entries ds lost w.1 u (task_ends a) t.3 (sym t.5) w.3 in
+        let time : s.turn * H y md + u ≡ offset p a + E p a + k * P p a = ap (λ z. z * H y md + u) t.4 ∙ w.4 in
+        let here : Is y md s.index u (task_ends a) = subst (λ z. Is y md z u (task_ends a)) (sym t.5) w.3 in
+        let first = time_order y md b.0 b.1 b.2 s.turn s.index u (task_starts a) (task_ends a) b.3 here (omega (arith, b.4, time, fit.wcet)) in
+        let same = same_stay y ds s b.0 b.1 mv first in
+        let mode = same_mode y ds s mv same ∙ t.3 in
+        let begun = was_started es (t.0, t.1.1, sym same ∙ t.2, mode, released_back y p ds s (k * P p a) mv same t.6, step_back y ds s b.0 b.1 mv same (subst (λ (z : ℕ). b.1 < length (entries y z)) (sym mode) b.3.0) first) in
+        let ending = ending_is y md a fit s.turn u k time in
+        let k' = ending_run_at p s.turn u a in
+        let value : cond (ends_run p s.turn u a) (recall v s.stay (begun_run a k') ds) None ≡ Some begun.0.0 =
+          cond-true (ends_run p s.turn u a) (recall v s.stay (begun_run a k') ds) None ending.0 ∙ ap (λ z. recall v z (begun_run a k') ds) t.2 ∙ ap (λ z. recall v st (begun_run a z) ds) ending.1 ∙ begun.0.1 in
+        let out' = out ∙ ap (finished_or_not v a k') value in
+        let says = ap (ended_run a k) out' ∙ cond-true (nat_eq a a && nat_eq k' k) (Some begun.0.0) None (both_true (nat_eq a a) (nat_eq k' k) (eq-eqb a a refl) (eq-eqb k' k ending.1)) in
+        ((begun.0.0, says), still_some (is_beacon d.out) d (last_beacon ds) begun.1)
+
+    -- run k ended, once its end is past
+    was_ended : (es : List PlainEvent) → let w = end_place y md a fit k in Passed w.0 w.1 (k * P p a) es → ((z : ℤ) × (recall (node_of p a) st (ended_run a k) (history y es) ≡ Some z)) × ((g : Step) × (last_beacon (history y es) ≡ Some g))
+    was_ended es t = let w = end_place y md a fit k in visited w.0 w.1 (k * P p a) (node_of p a) (ended_run a k) fit.on_node w.3.0 end_hit es t
