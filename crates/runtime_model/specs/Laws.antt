@@ -115,3 +115,12 @@ Lossless [] = Unit {0}
 Lossless (advance lost ∷ es) = (lost ≡ 0) × Lossless es
 Lossless (request m ∷ es) = Lossless es
 Lossless (restart v ∷ es) = ⊥
+
+-- where nothing is lost and nobody restarts, at each start of run k that is performed the packets of window k were taken of all messages
+-- that the task consumes: by the definition of inputs, each of them is there
+abbrev pub NothingIsMissing : Type 0
+NothingIsMissing = (y : System) → PlansAreRight y → (es : List PlainEvent) (lost v b k : ℕ) (ins : List (Option ℤ)) (x : ℤ) → RequestsFit y es → Lossless (advance lost ∷ es) →
+    (step_of y (advance lost) (history y es)).out ≡ started v b k ins x →
+    let s = spot_next y (history y es) in
+    let p = plan_at y s.hyper.mode in
+    (i : ℕ) → i < length p.mode.messages → Contains (message_at p.mode i).to b → (xs : List ℤ) × (recall v s.stay (took v i k) (history y es) ≡ Some xs)

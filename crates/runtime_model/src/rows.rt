@@ -38,5 +38,4 @@ pub fn node_part()
 /// Two modes of one task each have right plans, so the laws speak of some system.
 pub fn pair_is_right()
     ensures { PairIsRight }
-{
-}
+{}
