@@ -1,12 +1,12 @@
 -- Where nothing is lost and nobody restarts, the packet of each window is sent and taken
-use Rattle.std.proofs.Common.{◌≡◌, ℕ, zero, suc, ◌+◌, ◌-◌, ◌*◌, ◌/◌, ◌%◌, ◌<◌, ◌≤◌, Bool, true, false, cond, not, ◌&&◌, ◌||◌, List, [], ◌∷◌, length, get_or, map, Contains, refl, sym, ◌∙◌, ap, subst, arith, ◌⊎◌, inl, inr, ⊎_elim, ℤ, pos, negsuc, ◌+ℤ◌, ◌≤ℤ◌, ◌<ℤ◌}
+use Rattle.std.proofs.Common.{◌≡◌, ℕ, zero, suc, ◌+◌, ◌-◌, ◌*◌, ◌/◌, ◌%◌, ◌<◌, ◌≤◌, Bool, true, false, cond, not, ◌&&◌, ◌||◌, List, [], ◌∷◌, length, get_or, map, Contains, refl, sym, ◌∙◌, ap, subst, arith, ℤ, pos, negsuc, ◌+ℤ◌, ◌≤ℤ◌, ◌<ℤ◌}
 use Rattle.std.specs.Prelude.{nat_eq, Option, Some, None}
-use Rattle.std.specs.List.{filter, list_any}
+use Rattle.std.specs.List.{filter}
 use Rattle.std.proofs.lemmas.Int.{ints}
-use Rattle.std.proofs.lemmas.Bool.{cases_lt, cond-true, cond-false, eq-eqb}
+use Rattle.std.proofs.lemmas.Bool.{cond-true, cond-false, eq-eqb}
 use Rattle.std.proofs.lemmas.Nat.{mod_below}
 use Rattle.sched_model.specs.Numbers.{below, has, natural}
-use Rattle.sched_model.specs.PlainMode.{PlainMessage, hyper, task_at, message_at, no_message}
+use Rattle.sched_model.specs.PlainMode.{hyper, message_at}
 use Rattle.sched_model.specs.Rounds.{round_start, opens, closes}
 use Rattle.sched_model.proofs.Graph.{message_edge, contains_has, has_contains}
 use Rattle.sched_model.proofs.Tests.{passes}
@@ -14,22 +14,22 @@ use Rattle.runtime_model.specs.Timeline.{PlainPhase, drains}
 use Rattle.runtime_model.specs.Plans.{Plan, RightPlan, Carried, node_of, offset, place_from}
 use Rattle.runtime_model.specs.Entries.{Entry, Action, slot, task_ends, task_starts}
 use Rattle.runtime_model.specs.Placement.{placed, release, not_negative, own_slot, window_at}
-use Rattle.runtime_model.specs.Outcomes.{PlainEvent, advance, Outcome, Spot, Step, is_beacon, took, ended_run}
+use Rattle.runtime_model.specs.Outcomes.{PlainEvent, advance, Step, is_beacon, took, ended_run}
 use Rattle.runtime_model.specs.LookingBack.{synced, recall, last_beacon}
 use Rattle.runtime_model.specs.System.{System, plan_at}
 use Rattle.runtime_model.specs.Packets.{reached, in_set, both, all_present, sender_of, takes_on, held, packet, takes}
-use Rattle.runtime_model.specs.History.{history, step_of, spot_next, last_spot, entries, entry_at, performed, sent_or_not}
-use Rattle.runtime_model.specs.Laws.{PlansAreRight, RequestsFit, Lossless, NothingIsMissing}
-use Rattle.runtime_model.proofs.Cycles.{none, entry_right, RightAt, has_slot}
-use Rattle.runtime_model.proofs.Spots.{Moves, moves, stands}
+use Rattle.runtime_model.specs.History.{history, step_of, spot_next, entries, entry_at, sent_or_not}
+use Rattle.runtime_model.specs.Laws.{RequestsFit, Lossless, NothingIsMissing}
+use Rattle.runtime_model.proofs.Cycles.{entry_right, has_slot}
+use Rattle.runtime_model.proofs.Spots.{moves, stands}
 use Rattle.runtime_model.proofs.Modes.{AllRight, all_right}
 use Rattle.runtime_model.proofs.Beacons.{some}
 use Rattle.runtime_model.proofs.TaskTimes.{TaskFits}
 use Rattle.runtime_model.proofs.Times.{natural_is, offset_is, task_fits, round_from_zero, place_is, window_is}
-use Rattle.runtime_model.proofs.OutRegisters.{Is, H, P, E, BeforeSpot, step_back, same_mode, released_back, Released, time_order, end_place, run_is, performed_is, both_true}
+use Rattle.runtime_model.proofs.OutRegisters.{Is, H, P, step_back, same_mode, released_back, Released, time_order, end_place, run_is, performed_is, both_true}
 use Rattle.runtime_model.proofs.InRegisters.{start_time}
 use Rattle.runtime_model.proofs.Switches.{start_of, started_is, in_entries, runs_end_before_switch}
-use Rattle.runtime_model.proofs.Lossless.{no_bit, kept, all_synced, still_some, same_stay, There, Passed, visited, was_ended}
+use Rattle.runtime_model.proofs.Lossless.{no_bit, kept, all_synced, still_some, same_stay, There, visited, was_ended}
 
 -- ---- small facts
 all_here : (f : ℕ → Option ℤ) (xs : List ℕ) → ((a : ℕ) → Contains xs a → (z : ℤ) × (f a ≡ Some z)) → (zs : List ℤ) × (all_present (map f xs) ≡ Some zs)

@@ -1,26 +1,26 @@
 -- What happens where nothing is lost and nobody restarts
-use Rattle.std.proofs.Common.{◌≡◌, ℕ, zero, suc, ◌+◌, ◌*◌, ◌/◌, ◌%◌, ◌^◌, ◌<◌, ◌≤◌, Bool, true, false, cond, not, ◌&&◌, ◌||◌, List, [], ◌∷◌, ◌++◌, length, length-append, get_or, Contains, refl, sym, ◌∙◌, ap, subst, arith, ◌⊎◌, inl, inr, ⊎_elim, ℤ, pos}
+use Rattle.std.proofs.Common.{◌≡◌, ℕ, zero, suc, ◌+◌, ◌*◌, ◌/◌, ◌%◌, ◌^◌, ◌<◌, ◌≤◌, Bool, true, false, cond, not, ◌&&◌, ◌||◌, List, [], ◌∷◌, ◌++◌, length, length-append, get_or, Contains, refl, sym, ◌∙◌, ap, subst, arith, ⊎_elim, ℤ}
 use Rattle.std.specs.Prelude.{nat_eq, Option, Some, None}
 use Rattle.std.specs.List.{filter}
-use Rattle.std.proofs.lemmas.Bool.{cases_lt, cases_Bool, cond-true, cond-false, eqb-true, eq-eqb, and_parts}
+use Rattle.std.proofs.lemmas.Bool.{cases_lt, cases_Bool, cond-true, cond-false, eq-eqb}
 use Rattle.std.proofs.lemmas.List.{get_or_append_left, get_or-append-add}
 use Rattle.std.proofs.lemmas.List.Elements.{filter-append}
 use Rattle.sched_model.specs.Numbers.{below, has, natural}
 use Rattle.sched_model.specs.PlainMode.{task_at}
 use Rattle.sched_model.specs.Rounds.{round_start}
 use Rattle.sched_model.proofs.Graph.{contains_has}
-use Rattle.runtime_model.specs.Plans.{Plan, RightPlan, node_of, offset}
-use Rattle.runtime_model.specs.Entries.{Entry, Action, task_ends, beacon, slot, task_starts}
+use Rattle.runtime_model.specs.Plans.{Plan, node_of, offset}
+use Rattle.runtime_model.specs.Entries.{Action, task_ends, beacon, slot, task_starts}
 use Rattle.runtime_model.specs.Placement.{placed, own_start, run_at, ends_run, ending_run_at}
 use Rattle.runtime_model.specs.Outcomes.{PlainEvent, advance, request, restart, Outcome, Spot, Step, is_beacon, hears, restarts, begun_run, ended_run}
-use Rattle.runtime_model.specs.LookingBack.{synced, coasts, runs, recall, or_else, last_beacon}
+use Rattle.runtime_model.specs.LookingBack.{synced, coasts, runs, recall, last_beacon}
 use Rattle.runtime_model.specs.System.{System, plan_at, body_at, state}
 use Rattle.runtime_model.specs.Packets.{in_set, reached, packet}
 use Rattle.runtime_model.specs.Inputs.{inputs}
-use Rattle.runtime_model.specs.History.{history, step_of, spot_next, last_spot, next_place, entries, entry_at, performed, sent_or_not, start_or_not, finished_or_not}
+use Rattle.runtime_model.specs.History.{history, step_of, spot_next, last_spot, entries, entry_at, performed, sent_or_not, start_or_not, finished_or_not}
 use Rattle.runtime_model.specs.Script.{opens_round}
 use Rattle.runtime_model.specs.Laws.{RequestsFit, Lossless}
-use Rattle.runtime_model.proofs.Cycles.{none, entry_right, RightAt, key, key_order, rank}
+use Rattle.runtime_model.proofs.Cycles.{none, key, key_order}
 use Rattle.runtime_model.proofs.Spots.{Same, Within, Opens, Moves, moves, stands}
 use Rattle.runtime_model.proofs.Modes.{AllRight}
 use Rattle.runtime_model.proofs.Beacons.{outcome_is, seen_entry, Seen, Unseen, seen_or_not, some, not_unseen, beacon_place, index_now}

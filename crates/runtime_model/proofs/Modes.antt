@@ -1,7 +1,7 @@
 -- Every mode that runs is one of the system's, where the requests name such modes
-use Rattle.std.proofs.Common.{◌≡◌, ℕ, suc, ◌<◌, ◌≤◌, Bool, true, false, cond, List, [], ◌∷◌, ◌++◌, length, refl, sym, subst, arith}
+use Rattle.std.proofs.Common.{ℕ, ◌<◌, ◌≤◌, Bool, true, false, cond, List, [], ◌∷◌, ◌++◌, length, subst, arith}
 use Rattle.std.specs.Prelude.{nat_eq}
-use Rattle.runtime_model.specs.Timeline.{PlainPhase, steady, warn, drain, drains, Hyperperiod, Timeline, Mark, asked, begins, ended, timeline_of, untaken, decided, follows, request_in}
+use Rattle.runtime_model.specs.Timeline.{PlainPhase, steady, warn, drain, drains, Hyperperiod, Mark, asked, begins, ended, timeline_of, untaken, decided, follows, request_in}
 use Rattle.runtime_model.specs.Plans.{RightPlan}
 use Rattle.runtime_model.specs.Outcomes.{PlainEvent, advance, request, restart}
 use Rattle.runtime_model.specs.System.{System, plan_at}

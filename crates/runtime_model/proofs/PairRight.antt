@@ -1,8 +1,8 @@
 -- The plans of a small system are right
-use Rattle.std.proofs.Common.{◌≡◌, ℕ, zero, suc, ◌+◌, ◌<◌, ◌≤◌, true, List, [], ◌∷◌, length, get_or, Contains, All, refl, sym, ap, subst, arith, ℤ, pos, ◌+ℤ◌, ◌≤ℤ◌, ◌<ℤ◌}
+use Rattle.std.proofs.Common.{◌≡◌, ℕ, zero, suc, ◌<◌, ◌≤◌, [], ◌∷◌, get_or, Contains, All, refl, sym, subst, arith, pos, ◌+ℤ◌, ◌≤ℤ◌}
 use Rattle.std.proofs.lemmas.Int.{ints}
 use Rattle.std.proofs.lemmas.List.Elements.{All-from_recursion}
-use Rattle.sched_model.specs.PlainMode.{PlainMode, hyper, task_at, message_at}
+use Rattle.sched_model.specs.PlainMode.{hyper, task_at}
 use Rattle.sched_model.specs.Rounds.{round_start}
 use Rattle.sched_model.specs.RightSchedule.{IsMessage, HasShape, RoundsFit, GapsFit, OffsetFits, ChainFits, TableFits, IsSchedule}
 use Rattle.sched_model.specs.ValidMode.{IsValid}
