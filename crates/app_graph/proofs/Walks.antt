@@ -30,11 +30,11 @@ breaks_first Memory r rs h = tt
 -- the rest of a walk from place i, where the rule looks at what came before
 pub after_rest : {Fault A : Type 0} (rule : List A → A → Rule Fault) (before xs : List A) (i : ℕ) (d : A) → i < length xs
     → each_after rule (before ++ take i xs) (drop i xs)
-      ≡ first_of (rule (before ++ take i xs) (get_or xs i d) ∷ each_after rule (before ++ take (i + 1) xs) (drop (i + 1) xs) ∷ [])
+    ≡ first_of (rule (before ++ take i xs) (get_or xs i d) ∷ each_after rule (before ++ take (i + 1) xs) (drop (i + 1) xs) ∷ [])
 after_rest {Fault} {A} rule before xs i d l =
     ap (λ (ys : List A). each_after rule (before ++ take i xs) ys) (drop_more xs i d l)
     ∙ ap (λ (ys : List A). first_of (rule (before ++ take i xs) (get_or xs i d) ∷ each_after rule ys (drop (i + 1) xs) ∷ []))
-      (append_assoc before (take i xs) (get_or xs i d ∷ []) ∙ ap (λ (ys : List A). before ++ ys) (sym (take_more xs i d l)))
+    (append_assoc before (take i xs) (get_or xs i d ∷ []) ∙ ap (λ (ys : List A). before ++ ys) (sym (take_more xs i d l)))
 
 -- where the rule is kept at place i, the rest from the next place decides
 pub after_kept : {Fault A : Type 0} (rule : List A → A → Rule Fault) (before xs : List A) (i : ℕ) (d : A) → i < length xs
@@ -53,3 +53,20 @@ pub after_breaks : {A : Type 0} (rule : List A → A → Rule GraphFault) (befor
     → Breaks f (each_after rule before xs)
 after_breaks rule before xs i d f l b e =
     subst (λ (r : Rule GraphFault). Breaks f r) (sym (after_rest rule before xs i d l) ∙ e) (breaks_first f _ _ b)
+
+-- a rule that is kept leaves the fault to the others
+pub breaks_after : (f : GraphFault) (r : Rule GraphFault) (rs : List (Rule GraphFault)) → r ≡ None → Breaks f (first_of rs) → Breaks f (first_of (r ∷ rs))
+breaks_after f r rs e b = subst (λ (s : Rule GraphFault). Breaks f s) (sym (first_of_kept r rs e)) b
+
+-- the same two steps where nothing comes before the list
+pub next_kept : {Fault A : Type 0} (rule : List A → A → Rule Fault) (xs : List A) (i : ℕ) (earlier : List A) (x : A) → i < length xs → earlier ≡ take i xs → x ≡ get_or xs i x
+    → rule earlier x ≡ None → each_after rule (take i xs) (drop i xs) ≡ each_after rule [] xs
+    → each_after rule (take (i + 1) xs) (drop (i + 1) xs) ≡ each_after rule [] xs
+next_kept {Fault} {A} rule xs i earlier x l f e k h =
+    after_kept rule [] xs i x l (ap (λ (y : A). rule (take i xs) y) (sym e) ∙ ap (λ (ys : List A). rule ys x) (sym f) ∙ k) h
+
+pub next_breaks : {A : Type 0} (rule : List A → A → Rule GraphFault) (xs : List A) (i : ℕ) (earlier : List A) (x : A) (fault : GraphFault) → i < length xs → earlier ≡ take i xs → x ≡ get_or xs i x
+    → Breaks fault (rule earlier x) → each_after rule (take i xs) (drop i xs) ≡ each_after rule [] xs
+    → Breaks fault (each_after rule [] xs)
+next_breaks {A} rule xs i earlier x fault l f e b h =
+    after_breaks rule [] xs i x fault l (subst (λ (r : Rule GraphFault). Breaks fault r) (ap (λ (ys : List A). rule ys x) f ∙ ap (λ (y : A). rule (take i xs) y) e) b) h

@@ -1,7 +1,11 @@
 pub mod Words
 pub mod Rules
 pub mod Spelling
+pub mod Hyperperiod
 pub mod ValueRules
+pub mod Cycles
+pub mod Masks
 pub mod Numbering
+pub mod Queries
 pub mod Checks
 pub mod Validation

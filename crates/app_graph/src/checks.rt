@@ -14,14 +14,22 @@ use std::alloc::Global;
 pub(crate) fn in_range(test: bool, key: Key) -> Result<(), GraphFault>
     ensures { Checks result (unless test (GraphFault.OutOfRange key)) }
 {
-    if test { Ok(()) } else { Err(GraphFault::OutOfRange(key)) }
+    if test {
+        Ok(())
+    } else {
+        Err(GraphFault::OutOfRange(key))
+    }
 }
 
 /// There are not too many of these where the test holds.
 pub(crate) fn few(test: bool, key: Key) -> Result<(), GraphFault>
     ensures { Checks result (unless test (GraphFault.TooMany key)) }
 {
-    if test { Ok(()) } else { Err(GraphFault::TooMany(key)) }
+    if test {
+        Ok(())
+    } else {
+        Err(GraphFault::TooMany(key))
+    }
 }
 
 /// The name stands for the first time where the test holds.

@@ -73,15 +73,27 @@ fn check_message(
 ) -> Result<(), GraphFault>
     ensures { Checks result (message_values app.now (flat_map (λ a. a.messages) earlier.now ++ before.now) message.now) }
 {
-    check_name(alloc, &message.name, is_earlier_message(&message.name, earlier, before))?;
+    check_name(
+        alloc,
+        &message.name,
+        is_earlier_message(&message.name, earlier, before),
+    )?;
     check_ends(alloc, Key::KFrom, 4, app, message.from.as_slice())?;
     check_ends(alloc, Key::KTo, 16, app, message.to.as_slice())?;
-    one_sender(alloc, are_on_one_node(app, message.from.as_slice()), message)?;
+    one_sender(
+        alloc,
+        are_on_one_node(app, message.from.as_slice()),
+        message,
+    )?;
     few(has_room(earlier, before.len()), Key::KMessage)
 }
 
 /// The messages of an application after those of the `earlier` applications.
-pub(crate) fn check_messages(alloc: Global, app: &RawApp, earlier: &[RawApp]) -> Result<(), GraphFault>
+pub(crate) fn check_messages(
+    alloc: Global,
+    app: &RawApp,
+    earlier: &[RawApp],
+) -> Result<(), GraphFault>
     ensures { Checks result (each_after (message_values app.now) (flat_map (λ a. a.messages) earlier.now) app.now.messages) }
 {
     let messages = app.messages.as_slice();

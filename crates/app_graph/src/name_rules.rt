@@ -89,7 +89,13 @@ pub(crate) fn check_name(alloc: Global, name: &Name, taken: bool) -> Result<(), 
 }
 
 /// One of the names under a key, after the earlier ones.
-fn check_listed(alloc: Global, key: Key, is_known: bool, earlier: &[Name], name: &Name) -> Result<(), GraphFault>
+fn check_listed(
+    alloc: Global,
+    key: Key,
+    is_known: bool,
+    earlier: &[Name],
+    name: &Name,
+) -> Result<(), GraphFault>
     ensures { Checks result (listed key (λ _. is_known) earlier.now name.now) }
 {
     in_range(is_name(name), key)?;
@@ -108,7 +114,12 @@ pub(crate) fn check_nodes(alloc: Global, nodes: &[Name]) -> Result<(), GraphFaul
 }
 
 /// The names under `from` or `to`, each a task of the application.
-fn check_task_names(alloc: Global, key: Key, tasks: &[RawTask], names: &[Name]) -> Result<(), GraphFault>
+fn check_task_names(
+    alloc: Global,
+    key: Key,
+    tasks: &[RawTask],
+    names: &[Name],
+) -> Result<(), GraphFault>
     ensures { Checks result (each_after (listed key (is_task tasks.now)) [] names.now) }
 {
     for (i, name) in names.iter().enumerate() {
@@ -118,7 +129,13 @@ fn check_task_names(alloc: Global, key: Key, tasks: &[RawTask], names: &[Name]) 
 }
 
 /// The producers or the consumers of a message, of which there are `most` at most.
-pub(crate) fn check_ends(alloc: Global, key: Key, most: usize, app: &RawApp, names: &[Name]) -> Result<(), GraphFault>
+pub(crate) fn check_ends(
+    alloc: Global,
+    key: Key,
+    most: usize,
+    app: &RawApp,
+    names: &[Name],
+) -> Result<(), GraphFault>
     ensures { Checks result (ends key most app.now names.now) }
 {
     in_range(!names.is_empty(), key)?;

@@ -41,16 +41,29 @@ fn check_task(
 ) -> Result<(), GraphFault>
     ensures { Checks result (task_values set.now app.now (flat_map (λ a. a.tasks) earlier.now ++ before.now) task.now) }
 {
-    check_name(alloc, &task.name, is_earlier_task(&task.name, earlier, before))?;
+    check_name(
+        alloc,
+        &task.name,
+        is_earlier_task(&task.name, earlier, before),
+    )?;
     in_range(is_name(&task.node), Key::KNode)?;
-    known(alloc, is_among(&task.node, set.nodes.as_slice()), &task.node)?;
+    known(
+        alloc,
+        is_among(&task.node, set.nodes.as_slice()),
+        &task.node,
+    )?;
     in_range(is_within(1, app.period, task.wcet), Key::KWcet)?;
     in_range(is_name(&task.body), Key::KBody)?;
     few(has_room(earlier, before.len()), Key::KTask)
 }
 
 /// The tasks of an application after those of the `earlier` applications.
-pub(crate) fn check_tasks(alloc: Global, set: &RawSet, app: &RawApp, earlier: &[RawApp]) -> Result<(), GraphFault>
+pub(crate) fn check_tasks(
+    alloc: Global,
+    set: &RawSet,
+    app: &RawApp,
+    earlier: &[RawApp],
+) -> Result<(), GraphFault>
     ensures { Checks result (each_after (task_values set.now app.now) (flat_map (λ a. a.tasks) earlier.now) app.now.tasks) }
 {
     let tasks = app.tasks.as_slice();

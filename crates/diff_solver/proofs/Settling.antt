@@ -1,12 +1,12 @@
 -- Rounds from 0 on: they end with the least values, or the causes lead back from a variable
-use Rattle.std.proofs.Common.{◌≡◌, ℕ, zero, suc, ◌+◌, ◌-◌, ◌*◌, ◌<◌, ◌≤◌, List, [], ◌∷◌, length, replicate, All, refl, sym, ◌∙◌, ap, subst, arith, ◌⊎◌, inl, inr, ⊎_elim, ℤ, pos, ◌+ℤ◌, ◌-ℤ◌, ◌≤ℤ◌, ◌<ℤ◌}
+use Rattle.std.proofs.Common.{◌≡◌, ℕ, zero, suc, ◌+◌, ◌*◌, ◌<◌, ◌≤◌, List, length, replicate, All, refl, sym, ◌∙◌, subst, arith, ◌⊎◌, inl, inr, ⊎_elim, ℤ, pos, ◌+ℤ◌, ◌-ℤ◌, ◌≤ℤ◌, ◌<ℤ◌}
 use Rattle.std.proofs.lemmas.Int.{ints}
 use Rattle.std.proofs.lemmas.List.{length-replicate}
 use Rattle.tick_num.specs.declared.differences.Diff.{Diff}
 use Rattle.tick_num.specs.Differences.{diff, MeetsAll, LeastValues, listed}
 use Rattle.diff_solver.specs.Bounds.{Small}
-use Rattle.diff_solver.specs.Causes.{at, beside, before, back, IsCause, LeadsBack}
-use Rattle.diff_solver.specs.Raising.{Held, Within, Pending}
+use Rattle.diff_solver.specs.Causes.{at, beside, back, LeadsBack}
+use Rattle.diff_solver.specs.Raising.{StandsAfter, Within, Pending}
 
 -- ---- before the first round
 listed-zeros : (n y : ℕ) → listed (replicate n (pos 0)) y ≡ pos 0
@@ -19,8 +19,8 @@ beside-zeros zero y = refl
 beside-zeros (suc n) zero = refl
 beside-zeros (suc n) (suc y) = beside-zeros n y
 
-held_zeros : (ds : List Diff) (n : ℕ) (cs : List ℕ) → length cs ≡ n → Held ds 0 (replicate n (pos 0)) (replicate n 0) cs
-held_zeros ds n cs size = record {
+state_zeros : (ds : List Diff) (n : ℕ) (cs : List ℕ) → length cs ≡ n → StandsAfter ds 0 (replicate n (pos 0)) (replicate n 0) cs
+state_zeros ds n cs size = record {
   rounds_size = length-replicate n 0 ∙ sym (length-replicate n (pos 0));
   causes_size = size ∙ sym (length-replicate n (pos 0));
   from_zero = λ y. let a = listed-zeros n y in omega (arith, ints, a);
@@ -37,7 +37,7 @@ held_zeros ds n cs size = record {
 -- ---- between rounds
 pub record Settling (ds : List Diff) (n round : ℕ) (vs : List ℤ) (rs cs : List ℕ) (last : ℕ) : Type 0 where
   pub size : length vs ≡ n
-  pub held : Held ds round vs rs cs
+  pub state : StandsAfter ds round vs rs cs
   pub within : Within vs
   pub pending : Pending round ds vs rs
   pub late : (round ≡ 0) ⊎ ((last < n) × (round ≤ beside rs last))
@@ -45,16 +45,16 @@ pub record Settling (ds : List Diff) (n round : ℕ) (vs : List ℤ) (rs cs : Li
 pub settling_init : (ds : List Diff) (n : ℕ) (vs : List ℤ) (rs cs : List ℕ) (last : ℕ) → vs ≡ replicate n (pos 0) → rs ≡ replicate n 0 → length cs ≡ n → Settling ds n 0 vs rs cs last
 settling_init ds n vs rs cs last ev er size = subst (λ (us : List ℤ). Settling ds n 0 us rs cs last) (sym ev) (subst (λ (us : List ℕ). Settling ds n 0 (replicate n (pos 0)) us cs last) (sym er) (record {
   size = length-replicate n (pos 0);
-  held = held_zeros ds n cs size;
+  state = state_zeros ds n cs size;
   within = λ y. let a = listed-zeros n y in omega (arith, ints, a);
   pending = λ i l. inr (omega arith);
   late = inl refl;
 }))
 
-pub least_values : (ds : List Diff) (round : ℕ) (vs : List ℤ) (rs cs : List ℕ) → Held ds round vs rs cs → MeetsAll (listed vs) ds → LeastValues ds (listed vs)
+pub least_values : (ds : List Diff) (round : ℕ) (vs : List ℤ) (rs cs : List ℕ) → StandsAfter ds round vs rs cs → MeetsAll (listed vs) ds → LeastValues ds (listed vs)
 least_values ds round vs rs cs h m = record { solves = m; from_zero = h.from_zero; least = h.under }
 
-module _ (ds : List Diff) (round : ℕ) (vs : List ℤ) (rs cs : List ℕ) (h : Held ds round vs rs cs) (y : ℕ) where
+module _ (ds : List Diff) (round : ℕ) (vs : List ℤ) (rs cs : List ℕ) (h : StandsAfter ds round vs rs cs) (y : ℕ) where
   -- a variable that was raised after n rounds
   late_back : (n : ℕ) → n ≤ beside rs y → (k : ℕ) → k < n → n ≤ beside rs (back ds cs y k) + k
   unfolding back

@@ -1,14 +1,14 @@
 -- What a round keeps: each raise keeps the values from 0 on, below every solution and caused
-use Rattle.std.proofs.Common.{◌≡◌, ℕ, zero, suc, ◌+◌, ◌-◌, ◌<◌, ◌≤◌, cond, eqb, List, [], ◌∷◌, length, get_or, set, All, refl, sym, ◌∙◌, ap, subst, arith, ◌⊎◌, inl, inr, ⊎_elim, ℤ, pos, ◌+ℤ◌, ◌-ℤ◌, ◌≤ℤ◌, ◌<ℤ◌}
+use Rattle.std.proofs.Common.{◌≡◌, ℕ, ◌+◌, ◌<◌, ◌≤◌, cond, eqb, List, length, refl, sym, ◌∙◌, ap, subst, arith, inl, inr, ⊎_elim, ℤ, pos, ◌-ℤ◌, ◌≤ℤ◌, ◌<ℤ◌}
 use Rattle.std.proofs.lemmas.Int.{ints}
 use Rattle.std.proofs.lemmas.Bool.{cases_lt, cases_eq, eq-eqb, ne_eqb, cond-true, cond-false}
 use Rattle.std.proofs.lemmas.List.{length-set, get_or-set_same, get_or-set_other, get_or_default}
 use Rattle.tick_num.specs.declared.differences.Diff.{Diff}
-use Rattle.tick_num.specs.Differences.{diff, Meets, MeetsAll, listed, InRange}
+use Rattle.tick_num.specs.Differences.{diff, Meets, listed, InRange}
 use Rattle.diff_solver.specs.declared.rounds.Swept.{Swept}
 use Rattle.diff_solver.specs.declared.rounds.Swept.TheVariants.{Settled, Raised, TooHigh}
 use Rattle.diff_solver.specs.Causes.{at, beside, before, IsCause}
-use Rattle.diff_solver.specs.Raising.{Held, Within, Awaits, Pending, Raises, Keeps, IsSwept}
+use Rattle.diff_solver.specs.Raising.{StandsAfter, Within, Awaits, Pending, Raises, Keeps, IsSwept}
 
 -- f with the value w at y
 put : (ℕ → ℕ) → ℕ → ℕ → ℕ → ℕ
@@ -48,7 +48,7 @@ places d i round vs rs cs vs' rs' cs' l er ec h =
 here : {A : Type 0} (f : ℕ → A) (x y : ℕ) (a : A) → f y ≡ a → x ≡ y → f x ≡ a
 here f x y a h e = ap f e ∙ h
 
-module _ (ds : List Diff) (i round : ℕ) (vs : List ℤ) (rs cs : List ℕ) (vs' : List ℤ) (rs' cs' : List ℕ) (within : i < length ds) (recent : round ≤ beside rs (at ds i).x) (held : Held ds (round + 1) vs rs cs)
+module _ (ds : List Diff) (i round : ℕ) (vs : List ℤ) (rs cs : List ℕ) (vs' : List ℤ) (rs' cs' : List ℕ) (within : i < length ds) (recent : round ≤ beside rs (at ds i).x) (state : StandsAfter ds (round + 1) vs rs cs)
     (less : listed vs (at ds i).y <ℤ (listed vs (at ds i).x -ℤ (at ds i).c))
     (p : Places (at ds i).y (listed vs (at ds i).x -ℤ (at ds i).c) (round + 1) i vs rs cs vs' rs' cs') where
   -- no value falls, and no mark
@@ -60,12 +60,12 @@ module _ (ds : List Diff) (i round : ℕ) (vs : List ℤ) (rs cs : List ℕ) (vs
 
   marked : (x : ℕ) → beside rs x ≤ beside rs' x
   marked x = ⊎_elim
-      (λ (e : x ≡ (at ds i).y). let a = here (beside rs') x _ _ p.mark e in let b = held.past x in omega (arith, a, b))
+      (λ (e : x ≡ (at ds i).y). let a = here (beside rs') x _ _ p.mark e in let b = state.past x in omega (arith, a, b))
       (λ (ne : x ≡ (at ds i).y → ⊥). let a = p.marks x ne in omega (arith, a))
       (cases_eq x (at ds i).y)
 
   abbrev time' : ℕ → ℕ
-  time' = put held.time (at ds i).y held.now
+  time' = put state.time (at ds i).y state.now
 
   -- the cause of y
   caused_here : IsCause ds (listed vs') time' i (at ds i).y
@@ -76,33 +76,33 @@ module _ (ds : List Diff) (i round : ℕ) (vs : List ℤ) (rs cs : List ℕ) (vs
         (λ (e : (at ds i).x ≡ (at ds i).y). inl (let a = here (listed vs') _ _ _ p.value e in let b = ap (listed vs) e in let v = p.value in omega (arith, ints, a, b, v, less)))
         (λ (ne : (at ds i).x ≡ (at ds i).y → ⊥). inr (
           let a = p.values _ ne in let v = p.value in omega (arith, ints, a, v),
-          let a = put_else held.time (at ds i).y held.now _ ne in let b = put_here held.time (at ds i).y held.now in let l = held.earlier (at ds i).x in omega (arith, a, b, l),
+          let a = put_else state.time (at ds i).y state.now _ ne in let b = put_here state.time (at ds i).y state.now in let l = state.earlier (at ds i).x in omega (arith, a, b, l),
         ))
         (cases_eq (at ds i).x (at ds i).y);
   }
 
   -- the cause of another
-  caused_else : (z j : ℕ) → (z ≡ (at ds i).y → ⊥) → IsCause ds (listed vs) held.time j z → IsCause ds (listed vs') time' j z
+  caused_else : (z j : ℕ) → (z ≡ (at ds i).y → ⊥) → IsCause ds (listed vs) state.time j z → IsCause ds (listed vs') time' j z
   caused_else z j ne h = record {
     within = h.within;
     ends = h.ends;
     forces =
         let same = p.values z ne in
-        let s = put_else held.time (at ds i).y held.now z ne in
+        let s = put_else state.time (at ds i).y state.now z ne in
         ⊎_elim
         (λ (e : (at ds j).x ≡ (at ds i).y). inl (
         let a = here (listed vs') _ _ _ p.value e in
         let b = ap (listed vs) e in
         ⊎_elim
         (λ (f : listed vs z <ℤ (listed vs (at ds j).x -ℤ (at ds j).c)). omega (arith, ints, a, b, f, same, less))
-        (λ (f : (listed vs z ≤ℤ (listed vs (at ds j).x -ℤ (at ds j).c)) × (held.time (at ds j).x < held.time z)). let f0 = f.0 in omega (arith, ints, a, b, f0, same, less))
+        (λ (f : (listed vs z ≤ℤ (listed vs (at ds j).x -ℤ (at ds j).c)) × (state.time (at ds j).x < state.time z)). let f0 = f.0 in omega (arith, ints, a, b, f0, same, less))
         h.forces))
         (λ (o : (at ds j).x ≡ (at ds i).y → ⊥).
         let a = p.values (at ds j).x o in
-        let t = put_else held.time (at ds i).y held.now (at ds j).x o in
+        let t = put_else state.time (at ds i).y state.now (at ds j).x o in
         ⊎_elim
         (λ (f : listed vs z <ℤ (listed vs (at ds j).x -ℤ (at ds j).c)). inl (omega (arith, ints, a, f, same)))
-        (λ (f : (listed vs z ≤ℤ (listed vs (at ds j).x -ℤ (at ds j).c)) × (held.time (at ds j).x < held.time z)). inr (let f0 = f.0 in omega (arith, ints, a, f0, same), let f1 = f.1 in omega (arith, t, f1, s)))
+        (λ (f : (listed vs z ≤ℤ (listed vs (at ds j).x -ℤ (at ds j).c)) × (state.time (at ds j).x < state.time z)). inr (let f0 = f.0 in omega (arith, ints, a, f0, same), let f1 = f.1 in omega (arith, t, f1, s)))
         h.forces)
         (cases_eq (at ds j).x (at ds i).y);
   }
@@ -110,27 +110,27 @@ module _ (ds : List Diff) (i round : ℕ) (vs : List ℤ) (rs cs : List ℕ) (vs
   near_here : round + 1 ≤ beside rs' (at ds i).x + 1
   near_here = let m = marked (at ds i).x in omega (arith, recent, m)
 
-  raise_held : length rs' ≡ length vs' → length cs' ≡ length vs' → Held ds (round + 1) vs' rs' cs'
-  raise_held er ec = record {
+  raised_state : length rs' ≡ length vs' → length cs' ≡ length vs' → StandsAfter ds (round + 1) vs' rs' cs'
+  raised_state er ec = record {
     rounds_size = er;
     causes_size = ec;
-    from_zero = λ x. let a = rises x in let b = held.from_zero x in omega (arith, ints, a, b);
+    from_zero = λ x. let a = rises x in let b = state.from_zero x in omega (arith, ints, a, b);
     under = λ w m z x. ⊎_elim
         (λ (e : x ≡ (at ds i).y).
         let a = here (listed vs') x _ _ p.value e in
         let b = ap w e in
-        let u = held.under w m z (at ds i).x in
+        let u = state.under w m z (at ds i).x in
         let meets = m i (diff 0 0 (pos 0)) within in
         omega (arith, ints, a, b, u, meets))
-        (λ (ne : x ≡ (at ds i).y → ⊥). let a = p.values x ne in let u = held.under w m z x in omega (arith, ints, a, u))
+        (λ (ne : x ≡ (at ds i).y → ⊥). let a = p.values x ne in let u = state.under w m z x in omega (arith, ints, a, u))
         (cases_eq x (at ds i).y);
     past = λ x. ⊎_elim
         (λ (e : x ≡ (at ds i).y). let a = here (beside rs') x _ _ p.mark e in omega (arith, a))
-        (λ (ne : x ≡ (at ds i).y → ⊥). let a = p.marks x ne in let b = held.past x in omega (arith, a, b))
+        (λ (ne : x ≡ (at ds i).y → ⊥). let a = p.marks x ne in let b = state.past x in omega (arith, a, b))
         (cases_eq x (at ds i).y);
     raised = λ x some. ⊎_elim
         (λ (e : x ≡ (at ds i).y). let a = here (beside rs') x _ _ p.mark e in omega (arith, a))
-        (λ (ne : x ≡ (at ds i).y → ⊥). let a = p.marks x ne in let v = p.values x ne in let b = held.raised x (omega (arith, ints, v, some)) in omega (arith, a, b))
+        (λ (ne : x ≡ (at ds i).y → ⊥). let a = p.marks x ne in let v = p.values x ne in let b = state.raised x (omega (arith, ints, v, some)) in omega (arith, a, b))
         (cases_eq x (at ds i).y);
     near = λ x some. ⊎_elim
         (λ (e : x ≡ (at ds i).y).
@@ -141,21 +141,21 @@ module _ (ds : List Diff) (i round : ℕ) (vs : List ℤ) (rs cs : List ℕ) (vs
         (λ (ne : x ≡ (at ds i).y → ⊥).
         let a = p.marks x ne in
         let c = ap (λ k. beside rs' (at ds k).x) (p.causes x ne) in
-        let n = held.near x (omega (arith, a, some)) in
+        let n = state.near x (omega (arith, a, some)) in
         let m = marked (before ds cs x) in
         omega (arith, a, c, n, m))
         (cases_eq x (at ds i).y);
     time = time';
-    now = held.now + 1;
+    now = state.now + 1;
     earlier = λ x. ⊎_elim
-        (λ (e : x ≡ (at ds i).y). let a = here time' x _ _ (put_here held.time (at ds i).y held.now) e in omega (arith, a))
-        (λ (ne : x ≡ (at ds i).y → ⊥). let a = put_else held.time (at ds i).y held.now x ne in let b = held.earlier x in omega (arith, a, b))
+        (λ (e : x ≡ (at ds i).y). let a = here time' x _ _ (put_here state.time (at ds i).y state.now) e in omega (arith, a))
+        (λ (ne : x ≡ (at ds i).y → ⊥). let a = put_else state.time (at ds i).y state.now x ne in let b = state.earlier x in omega (arith, a, b))
         (cases_eq x (at ds i).y);
     caused = λ x some. ⊎_elim
         (λ (e : x ≡ (at ds i).y). subst (λ k. IsCause ds (listed vs') time' k x) (sym (here (beside cs') x _ _ p.cause e)) (subst (IsCause ds (listed vs') time' i) (sym e) caused_here))
         (λ (ne : x ≡ (at ds i).y → ⊥).
         let a = p.marks x ne in
-        subst (λ k. IsCause ds (listed vs') time' k x) (sym (p.causes x ne)) (caused_else x (beside cs x) ne (held.caused x (omega (arith, a, some)))))
+        subst (λ k. IsCause ds (listed vs') time' k x) (sym (p.causes x ne)) (caused_else x (beside cs x) ne (state.caused x (omega (arith, a, some)))))
         (cases_eq x (at ds i).y);
   }
 
@@ -189,14 +189,14 @@ IsLast round n rs (Raised y) = (y < n) × (round + 1 ≤ beside rs y)
 IsLast round n rs (TooHigh y) = ⊥
 
 pub record Sweeping (ds : List Diff) (round : ℕ) (vs : List ℤ) (rs cs : List ℕ) (swept : Swept) (position : ℕ) : Type 0 where
-  pub held : Held ds (round + 1) vs rs cs
+  pub state : StandsAfter ds (round + 1) vs rs cs
   pub within : Within vs
   pub done : (j : ℕ) → j < position → Awaits (round + 1) vs rs (at ds j)
   pub due : Pending round ds vs rs
   pub last : IsLast round (length vs) rs swept
 
-held_next : (ds : List Diff) (round : ℕ) (vs : List ℤ) (rs cs : List ℕ) → Held ds round vs rs cs → Held ds (round + 1) vs rs cs
-held_next ds round vs rs cs h = record {
+state_next : (ds : List Diff) (round : ℕ) (vs : List ℤ) (rs cs : List ℕ) → StandsAfter ds round vs rs cs → StandsAfter ds (round + 1) vs rs cs
+state_next ds round vs rs cs h = record {
   rounds_size = h.rounds_size;
   causes_size = h.causes_size;
   from_zero = h.from_zero;
@@ -210,9 +210,9 @@ held_next ds round vs rs cs h = record {
   caused = h.caused;
 }
 
-pub sweeping_init : (ds : List Diff) (round : ℕ) (vs : List ℤ) (rs cs : List ℕ) → Held ds round vs rs cs → Within vs → Pending round ds vs rs → Sweeping ds round vs rs cs Settled 0
+pub sweeping_init : (ds : List Diff) (round : ℕ) (vs : List ℤ) (rs cs : List ℕ) → StandsAfter ds round vs rs cs → Within vs → Pending round ds vs rs → Sweeping ds round vs rs cs Settled 0
 sweeping_init ds round vs rs cs h within due = record {
-  held = held_next ds round vs rs cs h;
+  state = state_next ds round vs rs cs h;
   within = within;
   due = due;
   done = λ j l. absurd (omega (arith, l));
@@ -227,7 +227,7 @@ module _ (ds : List Diff) (round : ℕ) (vs : List ℤ) (rs cs : List ℕ) (swep
   -- a constraint that is met
   pub sweeping_met : Meets (listed vs) (at ds i) → Sweeping ds round vs rs cs swept (i + 1)
   sweeping_met m = record {
-    held = s.held;
+    state = s.state;
     within = s.within;
     due = s.due;
     last = s.last;
@@ -253,24 +253,24 @@ module _ (ds : List Diff) (round : ℕ) (vs : List ℤ) (rs cs : List ℕ) (swep
     low = let r = range i (diff 0 0 (pos 0)) l in let r1 = r.1 in omega (arith, r1, size)
 
     at_places : Places (at ds i).y (listed vs (at ds i).x -ℤ (at ds i).c) (round + 1) i vs rs cs vs' rs' cs'
-    at_places = places (at ds i) i (round + 1) vs rs cs vs' rs' cs' low s.held.rounds_size s.held.causes_size h
+    at_places = places (at ds i) i (round + 1) vs rs cs vs' rs' cs' low s.state.rounds_size s.state.causes_size h
 
     size' : length vs' ≡ length vs
     size' = ap length h.value ∙ length-set vs (at ds i).y (listed vs (at ds i).x -ℤ (at ds i).c)
 
-    pub raises_held : Held ds (round + 1) vs' rs' cs'
-    raises_held = raise_held ds i round vs rs cs vs' rs' cs' l recent s.held h.less at_places
-        (ap length h.marked ∙ length-set rs (at ds i).y (round + 1) ∙ s.held.rounds_size ∙ sym size')
-        (ap length h.cause ∙ length-set cs (at ds i).y i ∙ s.held.causes_size ∙ sym size')
+    pub raises_state : StandsAfter ds (round + 1) vs' rs' cs'
+    raises_state = raised_state ds i round vs rs cs vs' rs' cs' l recent s.state h.less at_places
+        (ap length h.marked ∙ length-set rs (at ds i).y (round + 1) ∙ s.state.rounds_size ∙ sym size')
+        (ap length h.cause ∙ length-set cs (at ds i).y i ∙ s.state.causes_size ∙ sym size')
 
     pub sweeping_raises : listed vs' (at ds i).y ≤ℤ pos 7_680_000_000_000_000 → Sweeping ds round vs' rs' cs' (Raised (at ds i).y) (i + 1)
     sweeping_raises top = record {
-      held = raises_held;
-      within = within_after ds i round vs rs cs vs' rs' cs' l recent s.held h.less at_places s.within top;
+      state = raises_state;
+      within = within_after ds i round vs rs cs vs' rs' cs' l recent s.state h.less at_places s.within top;
       done = more (λ j. Awaits (round + 1) vs' rs' (at ds j)) i
-          (λ j lj. awaits_after ds i round vs rs cs vs' rs' cs' l recent s.held h.less at_places (round + 1) (at ds j) (omega arith) (s.done j lj))
-          (awaits_here ds i round vs rs cs vs' rs' cs' l recent s.held h.less at_places);
-      due = λ j lj. awaits_after ds i round vs rs cs vs' rs' cs' l recent s.held h.less at_places round (at ds j) (omega arith) (s.due j lj);
+          (λ j lj. awaits_after ds i round vs rs cs vs' rs' cs' l recent s.state h.less at_places (round + 1) (at ds j) (omega arith) (s.done j lj))
+          (awaits_here ds i round vs rs cs vs' rs' cs' l recent s.state h.less at_places);
+      due = λ j lj. awaits_after ds i round vs rs cs vs' rs' cs' l recent s.state h.less at_places round (at ds j) (omega arith) (s.due j lj);
       last = (let a = low in omega (arith, a, size'), let a = at_places.mark in omega (arith, a));
     }
 

@@ -1,5 +1,5 @@
 -- How large the bounds of a list may be
-use Rattle.std.specs.Prelude.{ℤ, pos, ◌≤ℤ◌, neg_ℤ}
+use Rattle.std.specs.Prelude.{pos, ◌≤ℤ◌, neg_ℤ}
 use Rattle.tick_num.specs.declared.differences.Diff.{Diff}
 
 -- a bound within 10^13 of zero

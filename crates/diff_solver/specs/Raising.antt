@@ -1,21 +1,23 @@
 -- Values that constraints have raised from 0 in rounds
-use Rattle.std.specs.Prelude.{◌≡◌, ℕ, ◌<◌, ◌≤◌, ◌+◌, ◌⊎◌, List, length, All, slice_set, ℤ, pos, ◌-ℤ◌, ◌≤ℤ◌, ◌<ℤ◌}
+use Rattle.std.specs.Prelude.{◌≡◌, ℕ, ◌<◌, ◌≤◌, ◌+◌, ◌⊎◌, List, length, slice_set, ℤ, pos, ◌-ℤ◌, ◌≤ℤ◌, ◌<ℤ◌}
 use Rattle.tick_num.specs.declared.differences.Diff.{Diff}
 use Rattle.tick_num.specs.Differences.{Meets, MeetsAll, listed}
 use Rattle.diff_solver.specs.declared.rounds.Swept.{Swept}
 use Rattle.diff_solver.specs.declared.rounds.Swept.TheVariants.{Settled, Raised, TooHigh}
 use Rattle.diff_solver.specs.Causes.{at, beside, before, IsCause}
 
--- after some rounds: values from 0 on, of which none is above a solution, each with the round that last raised it and that raise's cause
-pub record Held (ds : List Diff) (round : ℕ) (vs : List ℤ) (rounds causes : List ℕ) : Type 0 where
+-- how values stand after rounds from 0 on, each with the round that last raised it, from 1, and the position of the constraint that did
+pub record StandsAfter (ds : List Diff) (round : ℕ) (vs : List ℤ) (rounds causes : List ℕ) : Type 0 where
   pub rounds_size : length rounds ≡ length vs
   pub causes_size : length causes ≡ length vs
+  -- the values are from 0 on, and none is above a solution
   pub from_zero : (y : ℕ) → pos 0 ≤ℤ listed vs y
   pub under : (w : ℕ → ℤ) → MeetsAll w ds → ((x : ℕ) → pos 0 ≤ℤ w x) → (y : ℕ) → listed vs y ≤ℤ w y
+  -- a value above 0 was raised in one of the rounds, and in the one after its cause's at the latest
   pub past : (y : ℕ) → beside rounds y ≤ round
   pub raised : (y : ℕ) → pos 0 <ℤ listed vs y → 1 ≤ beside rounds y
   pub near : (y : ℕ) → 1 ≤ beside rounds y → beside rounds y ≤ beside rounds (before ds causes y) + 1
-  -- an order of the raises
+  -- an order of the raises, and causes that agree with it
   pub time : ℕ → ℕ
   pub now : ℕ
   pub earlier : (y : ℕ) → time y < now

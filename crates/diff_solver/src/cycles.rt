@@ -6,8 +6,8 @@ ghost use Rattle.diff_solver.specs.Causes.{LeadsBack, ComesRound, back};
 
 use tick_num::Diff;
 
-/// Writes a cycle of causes, to which the causes lead back from a variable, into the end of
-/// `cycle`, and answers where it starts.
+/// Writes the cycle to which the causes lead back from a variable into the end of `cycle`, and
+/// answers where it starts.
 pub(crate) fn close(list: &[Diff], from: u32, causes: &[u32], cycle: &mut [u32]) -> usize
     requires range { InRange (length causes.now) list.now }
     requires from { from < length causes.now }

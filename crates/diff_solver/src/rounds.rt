@@ -4,7 +4,7 @@ ghost use Rattle.std.specs.Prelude.{◌≡◌, ℕ, ◌+◌, ◌<◌, ◌≤◌,
 ghost use Rattle.std.specs.Bool.{OnTrue, OnFalse};
 ghost use Rattle.tick_num.specs.Differences.{InRange, listed};
 ghost use Rattle.diff_solver.specs.Bounds.{Small};
-ghost use Rattle.diff_solver.specs.Raising.{Held, Within, Pending, Raises, Keeps, IsSwept};
+ghost use Rattle.diff_solver.specs.Raising.{StandsAfter, Within, Pending, Raises, Keeps, IsSwept};
 
 use tick_num::{Diff, Time};
 
@@ -36,10 +36,10 @@ pub(crate) fn sweep(
     requires small { All Small list.now }
     requires long { length list.now < 4_294_967_296 }
     requires round { round ≤ 768 }
-    requires held { Held list.now round values.old rounds.old causes.old }
+    requires state { StandsAfter list.now round values.old rounds.old causes.old }
     requires within { Within values.old }
     requires pending { Pending round list.now values.old rounds.old }
-    ensures held { Held list.now (round + 1) values.new rounds.new causes.new }
+    ensures state { StandsAfter list.now (round + 1) values.new rounds.new causes.new }
     ensures swept { IsSwept list.now (round + 1) values.new rounds.new result }
 {
     let mut swept = Swept::Settled;

@@ -19,7 +19,10 @@ pub enum Solved {
     Cycle,
 }
 
-/// Solves a list of constraints over `n` variables in the work's memory.
+/// Solves a list of constraints on the variables 0 to `n - 1`, whose bounds are within 10^13 of
+/// zero. It takes no memory: the values or the cycle that it finds stand in the work, until the
+/// next call. It goes over the list until nothing changes, at most once more than there are
+/// variables.
 pub fn solve(n: u32, list: &[Diff], work: &mut Work) -> Solved
     requires few { n ≤ 768 }
     requires long { length list.now < 4_294_967_296 }
@@ -85,9 +88,9 @@ fn settle_front(
     )
 }
 
-/// Raises the values from 0 on until no constraint forces one, or until a variable has been raised
-/// in more rounds than there are variables: then the causes have a cycle, and the answer is where
-/// it starts.
+/// Raises the values from 0 on, round by round, until no constraint forces one up. Where a round
+/// after as many as there are variables still raises one, or a value goes above the limit, its
+/// causes lead back to a cycle, and the answer is where that starts.
 fn settle(
     list: &[Diff],
     values: &mut [Time],

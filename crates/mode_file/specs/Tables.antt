@@ -48,18 +48,21 @@ has_kind _ _ = false
 
 -- ---- the rules on one table's keys
 
--- the value has the kind where there is one, and else the other rule decides
-abbrev pub kind_rule : Key → Kind → Option Data → Rule FileFault → Rule FileFault
-kind_rule key kind None absent = absent
-kind_rule key kind (Some d) absent = unless (has_kind kind d) (WrongKind key)
-
--- the key is there, and its value has the kind
-abbrev pub needs : Members → Key → Kind → Rule FileFault
-needs ms key kind = kind_rule key kind (get_member (word key) ms) (Some (Missing key))
+-- the value has the kind
+abbrev pub is_of : Kind → Key → Data → Rule FileFault
+is_of kind key d = unless (has_kind kind d) (WrongKind key)
 
 -- where the key is there, its value has the kind
 abbrev pub may_have : Members → Key → Kind → Rule FileFault
-may_have ms key kind = kind_rule key kind (get_member (word key) ms) None
+may_have ms key kind = option_map_or (is_of kind key) (get_member (word key) ms) None
+
+-- the key is there
+abbrev pub has : Members → Key → Rule FileFault
+has ms key = unless (is_some (get_member (word key) ms)) (Missing key)
+
+-- the key is there, and its value has the kind
+abbrev pub needs : Members → Key → Kind → Rule FileFault
+needs ms key kind = first_of (has ms key ∷ may_have ms key kind ∷ [])
 
 abbrev pub is_listed : List Key → List ℕ → Bool
 is_listed listed text = list_any (λ key. bytes_eq (word key) text) listed

@@ -5,7 +5,8 @@ use app_graph::{GraphFault, Key, Name};
 use std::alloc::{AllocError, AllocFailed, Global};
 use std::marker::Model;
 
-/// A key as a fault tells it: the key where it is spelled as a name, and `?` otherwise. A contract sees its bytes.
+/// A key as a fault tells it: the key where it is spelled as a name, and `?` otherwise.
+/// A contract sees its bytes.
 #[derive(Drop)]
 pub struct KeyText {
     name: Name,

@@ -1,4 +1,4 @@
-//! Mode files: reading one gives the mode set that it says, or the fault of the first rule that it breaks.
+//! Mode files: reading one gives the mode set that it says, or the fault of the first broken rule.
 #![tactic(auto)]
 
 mod faults;
@@ -10,4 +10,7 @@ mod unlisted;
 mod values;
 
 pub use faults::{FileFault, KeyText};
-pub use reading::read_raw;
+pub use reading::read_modes;
+
+#[cfg(test)]
+mod tests;

@@ -1,13 +1,14 @@
 //! Reading a mode file.
 
-ghost use Rattle.std.specs.Prelude.{◌≡◌};
+ghost use Rattle.std.specs.Prelude.{◌≡◌, IfOk};
 ghost use Rattle.toml.specs.View.{table_view};
-ghost use Rattle.mode_file.specs.Reading.{top_table, toml_rule, entering_rules, raw_of};
+ghost use Rattle.mode_file.specs.Reading.{top_table, toml_rule, entering_rules, raw_of, IsReading};
+ghost use Rattle.app_graph.specs.Validation.{KeepsRules};
 ghost use Rattle.mode_file.specs.Walks.{Walks};
 
 use crate::faults::FileFault;
 use crate::tables::FromTable;
-use app_graph::RawSet;
+use app_graph::{ModeSet, RawSet, validate};
 use std::alloc::Global;
 use toml::Table;
 
@@ -34,7 +35,7 @@ fn top_table_of(alloc: Global, text: &[u8]) -> Result<Table, FileFault>
 }
 
 /// What the tables of the text say, as it is written.
-pub fn read_raw(alloc: Global, text: &[u8]) -> Result<RawSet, FileFault>
+fn read_raw(alloc: Global, text: &[u8]) -> Result<RawSet, FileFault>
     ensures { Walks (λ raw. raw) result (entering_rules text.now) (raw_of text.now) }
 {
     if text.len() > MOST_BYTES {
@@ -42,4 +43,17 @@ pub fn read_raw(alloc: Global, text: &[u8]) -> Result<RawSet, FileFault>
     }
     let table = top_table_of(alloc, text)?;
     RawSet::from_table(alloc, &table)
+}
+
+/// Reads a mode file: the mode set that it says, or the fault of the first rule that it breaks.
+///
+/// The rules come in this order: the file has at most 1,048,576 bytes; it is TOML; its tables,
+/// each before those below it, have the keys that they need, of the right kinds, and no others;
+/// and then the rules of [`validate`] on values and graphs.
+pub fn read_modes(alloc: Global, text: &[u8]) -> Result<ModeSet, FileFault>
+    ensures reading { IsReading text.now result }
+    ensures keeps_rules { IfOk result KeepsRules }
+{
+    let raw = read_raw(alloc, text)?;
+    Ok(validate(alloc, &raw)?)
 }

@@ -4,22 +4,16 @@ ghost use Rattle.std.specs.Prelude.{◌≡◌};
 ghost use Rattle.std.specs.List.{list_all};
 ghost use Rattle.app_graph.specs.Spelling;
 
-fn is_name_byte(b: u8) -> bool
-    ensures { result ≡ Spelling.is_name_byte b }
+fn is_name_byte(byte: u8) -> bool
+    ensures { result ≡ Spelling.is_name_byte byte }
 {
-    if b >= b'a' {
-        b <= b'z'
-    } else if b >= b'0' {
-        if b <= b'9' { true } else { b == b'_' }
-    } else {
-        false
-    }
+    matches!(byte, b'a'..=b'z' | b'0'..=b'9' | b'_')
 }
 
 fn all_name_bytes(text: &[u8]) -> bool
     ensures { result ≡ list_all Spelling.is_name_byte text.now }
 {
-    text.iter().all(|b| is_name_byte(*b))
+    text.iter().all(|byte| is_name_byte(*byte))
 }
 
 /// Whether the text has 1 to 32 bytes, each of them `a` to `z`, `0` to `9` or `_`.

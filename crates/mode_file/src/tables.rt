@@ -25,12 +25,14 @@ pub(crate) trait FromTable: Drop {
 
     /// What the table says, or the fault of the first broken rule.
     fn from_table(alloc: Global, table: &Table) -> Result<Self, FileFault>
-        ensures { Walks (λ x. x) result (rules (table_view table.now)) (said (table_view table.now)) };
+        ensures { let members = table_view table.now in
+            Walks (λ x. x) result (rules members) (said members) };
 }
 
 /// What each of the tables says, in their order.
 fn from_tables<T: FromTable>(alloc: Global, values: &[Value]) -> Result<ListOf<T>, FileFault>
-    ensures { Walks (λ ts. ts) result (each T.rules (tables_in (map view values.now))) (map T.said (tables_in (map view values.now))) }
+    ensures { let tables = tables_in (map view values.now) in
+        Walks (λ ts. ts) result (each T.rules tables) (map T.said tables) }
 {
     let mut all = Vec::new(alloc);
     for value in values {

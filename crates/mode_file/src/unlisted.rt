@@ -17,7 +17,8 @@ fn is_listed(listed: &[Key], key: &str) -> bool
 }
 
 fn lesser<'a>(least: Option<&'a str>, key: &'a str) -> Option<&'a str>
-    ensures { option_map (λ k. k.now) result ≡ Tables.lesser (option_map (λ k. k.now) least.entry) key.now }
+    ensures { option_map (λ k. k.now) result
+        ≡ Tables.lesser (option_map (λ k. k.now) least.entry) key.now }
 {
     match least {
         None => Some(key),
@@ -27,7 +28,8 @@ fn lesser<'a>(least: Option<&'a str>, key: &'a str) -> Option<&'a str>
 
 /// The least key, by its bytes, that is not listed.
 fn least_unlisted<'a>(table: &'a Table, listed: &[Key]) -> Option<&'a str>
-    ensures { option_map (λ k. k.now) result ≡ Tables.least_unlisted listed.now (Tables.keys (table_view table.now)) }
+    ensures { option_map (λ k. k.now) result
+        ≡ Tables.least_unlisted listed.now (Tables.keys (table_view table.now)) }
 {
     let mut least = None;
     for (key, _) in table {
@@ -40,7 +42,8 @@ fn least_unlisted<'a>(table: &'a Table, listed: &[Key]) -> Option<&'a str>
 
 /// Refuses a table that has other keys than those listed.
 pub(crate) fn only(alloc: Global, table: &Table, listed: &[Key]) -> Result<(), FileFault>
-    ensures { Walks (λ u. tt {0}) result (Tables.has_only (table_view table.now) listed.now) (tt {0}) }
+    ensures { Walks (λ u. tt {0}) result
+        (Tables.has_only (table_view table.now) listed.now) (tt {0}) }
 {
     match least_unlisted(table, listed) {
         None => Ok(()),

@@ -19,7 +19,8 @@ use Rattle.sched_model.specs.OpenPrefix.{Chosen, FullOpen}
 use Rattle.sched_model.specs.ValidMode.{IsValid}
 use Rattle.sched_model.specs.ScheduleList.{values_of}
 use Rattle.sched_model.proofs.Lists.{all_both, flat_all, below_all, cond_all, part_fits}
-use Rattle.sched_model.proofs.Loads.{flat_below-suc, load-append}
+use Rattle.sched_model.proofs.Loads.{load-append}
+use Rattle.sched_model.proofs.Lists.{flat_below-suc}
 use Rattle.sched_model.proofs.Sums.{one_if, one_true, one_false, sum_to, sum_most, sum_under, most_one, few_in, load-serves, all_loads, instances_counted}
 use Rattle.sched_model.proofs.Classes.{apart_by}
 use Rattle.sched_model.proofs.Places.{length-serves, decision_at, place_fits}
@@ -32,7 +33,7 @@ use Rattle.sched_model.proofs.Serving.{Repeats}
 use Rattle.sched_model.proofs.Given.{IsServed, next_after, within_turn, server_rises}
 use Rattle.sched_model.proofs.Pairs.{Fits, place_of, fits_order, among_places}
 use Rattle.sched_model.proofs.Graph.{edge_message, message_edge, never_late}
-use Rattle.sched_model.proofs.Hyper.{hyper_some}
+use Rattle.sched_model.proofs.Hyperperiods.{hyper_some}
 use Rattle.sched_model.proofs.Spans.{in_span}
 
 -- a choice that a schedule gives for a decision

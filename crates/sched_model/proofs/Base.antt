@@ -33,7 +33,6 @@ at_member P xs h x c = All-contains P xs x (All-from_recursion P xs h) c
 from_members : {X : Type 0} (P : X → Type 0) (xs : List X) → ((x : X) → Contains xs x → P x) → AllByRecursion P xs
 from_members P xs h = recursion_from_All P xs (λ k d l. h (get_or xs k d) (Contains-get_or xs k d l))
 
-
 message_facts : (M : Diff → Type 0) (m : PlainMode) (r i : ℕ) → AllByRecursion M (of_message m r i) → MessageEach M m r i
 message_facts M m r i h =
     let msg = message_at m i in

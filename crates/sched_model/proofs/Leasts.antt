@@ -1,8 +1,8 @@
 -- The least values of a problem begin at 0 and make a right schedule
-use Rattle.std.proofs.Common.{◌≡◌, ℕ, zero, suc, ◌+◌, ◌-◌, ◌*◌, ◌/◌, ◌%◌, ◌<◌, ◌≤◌, Bool, true, cond, ltb, List, [], ◌∷◌, length, get_or, refl, sym, ◌∙◌, ap, subst, arith, ◌⊎◌, inl, inr, ⊎_elim, ℤ, pos, ◌+ℤ◌, ◌-ℤ◌, ◌≤ℤ◌, ◌<ℤ◌}
+use Rattle.std.proofs.Common.{◌≡◌, ℕ, zero, suc, ◌+◌, ◌-◌, ◌*◌, ◌/◌, ◌%◌, ◌<◌, ◌≤◌, cond, ltb, List, [], ◌∷◌, length, sym, ◌∙◌, ap, subst, arith, ⊎_elim, ℤ, pos, ◌-ℤ◌, ◌≤ℤ◌}
 use Rattle.std.specs.List.{AllByRecursion}
 use Rattle.std.proofs.lemmas.Int.{ints}
-use Rattle.std.proofs.lemmas.Bool.{cases_lt, cond_both, cond-true, lt-ltb, ltb-true, ltb-false}
+use Rattle.std.proofs.lemmas.Bool.{cases_lt, cond_both, cond-true, lt-ltb, ltb-true}
 use Rattle.std.proofs.lemmas.Nat.{div-add-mod', mod_below}
 use Rattle.std.proofs.lemmas.List.Elements.{recursion_from_All, All-from_recursion}
 use borrow.Author.Differences.{same_in}
@@ -11,11 +11,10 @@ use Rattle.tick_num.specs.Differences.{Meets, MeetsAll, LeastValues, NegativeCyc
 use Rattle.tick_num.proofs.Layers as layers
 use Rattle.tick_num.proofs.Cycles.{cycles_exclude}
 use Rattle.sched_model.specs.declared.schedule.Schedule.{Schedule}
-use Rattle.sched_model.specs.PlainMode.{PlainMode, message_at}
+use Rattle.sched_model.specs.PlainMode.{PlainMode}
 use Rattle.sched_model.specs.RightSchedule.{IsSchedule}
 use Rattle.sched_model.specs.ConstraintProblem.{vars, task_var, opens_var, closes_var, base, in_force}
-use Rattle.sched_model.specs.OpenPrefix.{Open, FullOpen}
-use Rattle.sched_model.specs.PrintedSchedule.{FirstList, schedule_of, Printed}
+use Rattle.sched_model.specs.PrintedSchedule.{schedule_of, Printed}
 use Rattle.sched_model.specs.ValidMode.{IsValid}
 use Rattle.sched_model.proofs.Lists.{all_left}
 use Rattle.sched_model.proofs.Base.{BaseFacts, facts_of}
@@ -48,21 +47,21 @@ module _ (m : PlainMode) (r : ℕ) (ok : IsValid m) (some : 1 ≤ r) (v : ℕ �
   late : (x : ℕ) → x < vars m r → v 0 ≤ℤ v x
   late x l =
       ⊎_elim
-        (λ (round : x < r). round_late x round)
-        (λ (le : r ≤ x). ⊎_elim
-          (λ (task : x - r < length m.tasks). subst (λ y. v 0 ≤ℤ v y) (let e : r + (x - r) ≡ x = omega (arith, le) in e) (task_late (x - r) task))
-          (λ (le' : length m.tasks ≤ x - r). window (x - r - length m.tasks) (omega (arith, le, le')) (mod_below (x - r - length m.tasks) 2 (omega arith)) (div-add-mod' (x - r - length m.tasks) 2))
-          (cases_lt (x - r) (length m.tasks)))
-        (cases_lt x r)
+      (λ (round : x < r). round_late x round)
+      (λ (le : r ≤ x). ⊎_elim
+      (λ (task : x - r < length m.tasks). subst (λ y. v 0 ≤ℤ v y) (let e : r + (x - r) ≡ x = omega (arith, le) in e) (task_late (x - r) task))
+      (λ (le' : length m.tasks ≤ x - r). window (x - r - length m.tasks) (omega (arith, le, le')) (mod_below (x - r - length m.tasks) 2 (omega arith)) (div-add-mod' (x - r - length m.tasks) 2))
+      (cases_lt (x - r) (length m.tasks)))
+      (cases_lt x r)
     where
       window : (y : ℕ) → x ≡ r + length m.tasks + y → y % 2 < 2 → y / 2 * 2 + y % 2 ≡ y → v 0 ≤ℤ v x
       window y e small d =
           let i = y / 2 in
           let li : i < length m.messages = omega (arith, l, e, d) in
           ⊎_elim
-            (λ (even : y % 2 < 1). subst (λ z. v 0 ≤ℤ v z) (let s : opens_var m r i ≡ x = omega (arith, e, d, even) in s) (opening_late i li))
-            (λ (odd : 1 ≤ y % 2). subst (λ z. v 0 ≤ℤ v z) (let s : closes_var m r i ≡ x = omega (arith, e, d, odd, small) in s) (closing_late i li))
-            (cases_lt (y % 2) 1)
+          (λ (even : y % 2 < 1). subst (λ z. v 0 ≤ℤ v z) (let s : opens_var m r i ≡ x = omega (arith, e, d, even) in s) (opening_late i li))
+          (λ (odd : 1 ≤ y % 2). subst (λ z. v 0 ≤ℤ v z) (let s : closes_var m r i ≡ x = omega (arith, e, d, odd, small) in s) (closing_late i li))
+          (cases_lt (y % 2) 1)
 
 -- the same values moved so that the first round starts at 0, and 0 past the variables
 moved : ℕ → (ℕ → ℤ) → ℕ → ℤ
@@ -96,14 +95,14 @@ module _ (m : PlainMode) (r : ℕ) (p : List ℤ) (ok : IsValid m) (some : 1 ≤
   pub least_exists : (v : ℕ → ℤ) → MeetsAll v (in_force m r p) → (w : ℕ → ℤ) × LeastValues (in_force m r p) w
   least_exists v solves =
       ⊎_elim
-        (λ (w : (w : ℕ → ℤ) × LeastValues (in_force m r p) w). w)
-        (λ (c : (refs : List ℕ) × NegativeCycle (in_force m r p) refs × (1 ≤ length refs) × (length refs ≤ vars m r)). absurd (cycles_exclude (in_force m r p) c.0 c.1 v solves))
-        (layers.least_or_cycle (vars m r) (in_force m r p) (in_range m r ok some p))
+      (λ (w : (w : ℕ → ℤ) × LeastValues (in_force m r p) w). w)
+      (λ (c : (refs : List ℕ) × NegativeCycle (in_force m r p) refs × (1 ≤ length refs) × (length refs ≤ vars m r)). absurd (cycles_exclude (in_force m r p) c.0 c.1 v solves))
+      (layers.least_or_cycle (vars m r) (in_force m r p) (in_range m r ok some p))
 
 pub printed_right : (m : PlainMode) (r : ℕ) (s : Schedule) → IsValid m → 1 ≤ r → Printed m r s → IsSchedule m r s
 printed_right m r s ok some pr =
     subst (IsSchedule m r) (sym pr.made)
-      (schedule_from m r pr.list pr.values ok some pr.first.here pr.least.solves (least_zero m r pr.list ok some pr.values pr.least))
+    (schedule_from m r pr.list pr.values ok some pr.first.here pr.least.solves (least_zero m r pr.list ok some pr.values pr.least))
 
 -- one schedule is printed
 pub printed_one : (m : PlainMode) (r : ℕ) (s t : Schedule) → Printed m r s → Printed m r t → s ≡ t

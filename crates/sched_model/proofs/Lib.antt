@@ -4,7 +4,7 @@ pub mod Tests
 pub mod Classes
 pub mod Serving
 pub mod Given
-pub mod Hyper
+pub mod Hyperperiods
 pub mod Base
 pub mod Places
 pub mod Counts
@@ -21,6 +21,18 @@ pub mod Backward
 pub mod FirstInstances
 pub mod OneTurn
 pub mod SmallModes
+pub mod Fewer
+pub mod CostsExist
+pub mod Lengths
+pub mod Bounds
+pub mod ModeNumbers
+pub mod LimitedModes
+pub mod Sizes
+pub mod KeptSets
+pub mod KeptModes
+pub mod Ranks
+pub mod PlainPlaces
+pub mod KeptRules
 pub mod Stored
 pub mod OwnTrees
 pub mod Leasts

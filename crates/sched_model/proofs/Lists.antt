@@ -62,7 +62,7 @@ get_or-below (suc n) i d l =
 pub get_or-map_below : {X : Type 0} (f : ℕ → X) (n i : ℕ) (d : X) → i < n → get_or (map f (below n)) i d ≡ f i
 get_or-map_below f n i d l = get_or-map f (below n) i 0 d (omega (arith, length-below n)) ∙ ap f (get_or-below n i 0 l)
 
-flat_below-suc : {X : Type 0} (f : ℕ → List X) (n : ℕ) → flat_map f (below (suc n)) ≡ flat_map f (below n) ++ f n
+pub flat_below-suc : {X : Type 0} (f : ℕ → List X) (n : ℕ) → flat_map f (below (suc n)) ≡ flat_map f (below n) ++ f n
 flat_below-suc f n = flat_map-append f (below n) (n ∷ []) ∙ ap (λ l. flat_map f (below n) ++ l) (append-nil (f n))
 
 pub part_fits : {X : Type 0} (f : ℕ → List X) (n i : ℕ) → i < n → length (flat_map f (below i)) + length (f i) ≤ length (flat_map f (below n))

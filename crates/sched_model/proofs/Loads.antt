@@ -9,7 +9,7 @@ use Rattle.sched_model.specs.PlainMode.{PlainMode, message_at, instance_count}
 use Rattle.sched_model.specs.Numbers.{below, has, natural, distinct}
 use Rattle.sched_model.specs.ConstraintProblem.{Decision, serve, order, serves, orders, decisions, choice, load, load_of}
 use Rattle.sched_model.specs.PrintedSchedule.{names, table_of}
-use Rattle.sched_model.proofs.Lists.{get_or-map_below}
+use Rattle.sched_model.proofs.Lists.{flat_below-suc, get_or-map_below}
 use Rattle.sched_model.proofs.Tests.{passed_below, kept_out_below}
 use Rattle.sched_model.proofs.Places.{length-serves}
 
@@ -73,9 +73,6 @@ load_some r j (serve a b ∷ ds) (z ∷ p) zero i k l h e f =
 load_some r j (order a b ∷ ds) (z ∷ p) zero i k l h e f = absurd cc
 load_some r j (serve a b ∷ ds) (z ∷ p) (suc x) i k l h e f = omega (arith, load_some r j ds p x i k (omega arith) (omega arith) e f)
 load_some r j (order a b ∷ ds) (z ∷ p) (suc x) i k l h e f = load_some r j ds p x i k (omega arith) (omega arith) e f
-
-pub flat_below-suc : (f : ℕ → List Decision) (n : ℕ) → flat_map f (below (suc n)) ≡ flat_map f (below n) ++ f n
-flat_below-suc f n = flat_map-append f (below n) (n ∷ []) ∙ ap (λ l. flat_map f (below n) ++ l) (append-nil (f n))
 
 named_load : (m : PlainMode) (r j : ℕ) (p : List ℤ) (n : ℕ) → length (flat_map (serves m) (below n)) ≤ length p → length (filter (names m r p j) (below n)) ≤ load_of r j (flat_map (serves m) (below n)) p
 named_load m r j p zero le = omega arith

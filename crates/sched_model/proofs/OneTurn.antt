@@ -14,7 +14,7 @@ use Rattle.sched_model.specs.Rounds.{round_start, task_start, opens, closes, sta
 use Rattle.sched_model.specs.RightSchedule.{HasShape, RoundsFit, OffsetFits, MessageFits, RunsApart, ExactlyOne, AllServed, Timely}
 use Rattle.sched_model.specs.OneHyperperiod.{class_place, ClassesApart, Lists, wait, first_start, window_then, EndsInWindow, ServesFirst, ServedOnce, EntriesFit}
 use Rattle.sched_model.specs.ValidMode.{IsValid}
-use Rattle.sched_model.proofs.Hyper.{hyper_some}
+use Rattle.sched_model.proofs.Hyperperiods.{hyper_some}
 use Rattle.sched_model.proofs.Pairs.{Fits, gcd_some, never_meet, place_of, at_most_from_times}
 use Rattle.sched_model.proofs.Graph.{message_edge}
 use Rattle.sched_model.proofs.Serving.{Repeats}

@@ -16,7 +16,7 @@ use Rattle.sched_model.specs.PrintedSchedule.{schedule_of, names, table_of}
 use Rattle.sched_model.specs.ValidMode.{IsValid}
 use Rattle.sched_model.proofs.Lists.{get_or-map_below}
 use Rattle.sched_model.proofs.Tests.{passed_below, passes_below, kept_out_below, kept_in_below}
-use Rattle.sched_model.proofs.Hyper.{period_divides, hyper_some, some_factor}
+use Rattle.sched_model.proofs.Hyperperiods.{period_divides, hyper_some, some_factor}
 use Rattle.sched_model.proofs.Places.{serve_met}
 use Rattle.sched_model.proofs.Counts.{choice_one}
 use Rattle.sched_model.proofs.Moments.{Reads, start_again}

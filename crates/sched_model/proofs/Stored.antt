@@ -43,8 +43,11 @@ reads before (cycle c ∷ ns) =
 
 pub own_tree_stored : (m : PlainMode) (r : ℕ) (nodes : List Node) → IsOwnTree m r nodes → (ts : List TreeNode) × (refs : List ℕ) × OwnTree m r ts refs
 own_tree_stored m r nodes t =
-    let w = reads [] nodes in
-    (stored 0 nodes, numbers nodes, record {
+    let w = reads [] nodes in (
+      stored 0 nodes,
+      numbers nodes,
+      record {
         stored = All-from_recursion (IsStored (numbers nodes)) (stored 0 nodes) w.1;
         tree = subst (λ (l : List Node). IsOwnTree m r l) (sym w.0) t;
-      })
+      },
+    )

@@ -8,7 +8,8 @@ use Rattle.sched_model.specs.PlainMode.{PlainMode, message_at, instance_count, i
 use Rattle.sched_model.specs.Numbers.{below, has, natural}
 use Rattle.sched_model.specs.ConstraintProblem.{Decision, serve, order, serves, orders, decisions, load_of}
 use Rattle.sched_model.proofs.Lists.{length-below}
-use Rattle.sched_model.proofs.Loads.{load-append, flat_below-suc}
+use Rattle.sched_model.proofs.Loads.{load-append}
+use Rattle.sched_model.proofs.Lists.{flat_below-suc}
 
 abbrev pub one_if : Bool → ℕ
 one_if b = cond b 1 0

@@ -1,15 +1,15 @@
 -- A right schedule has its times within the limits
-use Rattle.std.proofs.Common.{◌≡◌, ℕ, zero, suc, ◌+◌, ◌-◌, ◌*◌, ◌/◌, ◌<◌, ◌≤◌, All, Contains, length, get_or, sym, ◌∙◌, ap, subst, arith, ℤ, pos, ◌+ℤ◌, ◌≤ℤ◌, ◌<ℤ◌}
+use Rattle.std.proofs.Common.{ℕ, ◌*◌, ◌/◌, ◌<◌, ◌≤◌, Contains, length, subst, arith, ℤ, pos}
 use Rattle.std.proofs.lemmas.Int.{ints}
 use Rattle.std.proofs.lemmas.List.{get_or_default}
 use Rattle.std.proofs.Math.Nat.{mul-le-mul_right}
 use Rattle.sched_model.specs.declared.schedule.Schedule.{Schedule}
-use Rattle.sched_model.specs.PlainMode.{PlainMode, hyper, task_at, message_at}
+use Rattle.sched_model.specs.PlainMode.{PlainMode, hyper, task_at}
 use Rattle.sched_model.specs.Rounds.{round_start, task_start, opens, closes}
 use Rattle.sched_model.specs.RightSchedule.{IsSchedule}
 use Rattle.sched_model.specs.TimeLimits.{IsTime, HasTimes}
 use Rattle.sched_model.specs.ValidMode.{IsValid}
-use Rattle.sched_model.proofs.Hyper.{period_divides, hyper_some, some_factor}
+use Rattle.sched_model.proofs.Hyperperiods.{period_divides, hyper_some, some_factor}
 use Rattle.sched_model.proofs.Graph.{message_edge}
 use Rattle.sched_model.proofs.Backward.{on_time, starts_from_zero}
 use Rattle.sched_model.proofs.OneTurn.{in_hyper}
@@ -23,9 +23,10 @@ period_most m p one c =
 
 module _ (m : PlainMode) (r : ℕ) (s : Schedule) (ok : IsValid m) (is : IsSchedule m r s) where
   start_time : (j : ℕ) → j < length s.starts → IsTime (round_start s j)
-  start_time j l =
-      (starts_from_zero m r s ok is j (omega (arith, l, is.shape.starts)),
-        omega (arith, ints, in_hyper m r s ok is.shape is.s1 is.s3 is.s4 j l, ok.hyper_limit))
+  start_time j l = (
+    starts_from_zero m r s ok is j (omega (arith, l, is.shape.starts)),
+    omega (arith, ints, in_hyper m r s ok is.shape is.s1 is.s3 is.s4 j l, ok.hyper_limit),
+  )
 
   task_time : (a : ℕ) → a < length m.tasks → IsTime (task_start s a)
   task_time a l =

@@ -1,5 +1,5 @@
 -- The constraints in force speak of the problem's variables alone
-use Rattle.std.proofs.Common.{◌≡◌, ℕ, zero, suc, ◌+◌, ◌-◌, ◌*◌, ◌/◌, ◌%◌, ◌<◌, ◌≤◌, Bool, true, ◌&&◌, List, [], ◌∷◌, ◌++◌, length, map, Contains, refl, arith, ltb, ℤ, pos}
+use Rattle.std.proofs.Common.{ℕ, ◌-◌, ◌<◌, ◌≤◌, List, [], ◌∷◌, length, map, arith, ltb, ℤ}
 use Rattle.std.specs.List.{AllByRecursion, flat_map}
 use Rattle.std.proofs.lemmas.Bool.{and_parts, ltb-true}
 use Rattle.std.proofs.lemmas.Nat.{mod_below}
@@ -7,11 +7,11 @@ use Rattle.std.proofs.lemmas.List.Elements.{All-from_recursion}
 use Rattle.tick_num.specs.declared.differences.Diff.{Diff}
 use Rattle.tick_num.specs.Differences.{InRange}
 use Rattle.sched_model.specs.Numbers.{below, natural}
-use Rattle.sched_model.specs.PlainMode.{PlainMode, task_at, message_at, instance_count}
+use Rattle.sched_model.specs.PlainMode.{PlainMode, message_at, instance_count}
 use Rattle.sched_model.specs.ConstraintProblem.{vars, base, Decision, serve, order, serves, orders, ordered, share, decisions, chosen, chosen_all, in_force}
 use Rattle.sched_model.specs.ValidMode.{IsValid}
 use Rattle.sched_model.proofs.Lists.{all_both, flat_all, below_all, cond_all}
-use Rattle.sched_model.proofs.Base.{BaseEach, base_all}
+use Rattle.sched_model.proofs.Base.{base_all}
 use Rattle.sched_model.proofs.Graph.{message_edge}
 
 -- ---- decisions are on messages and tasks of the mode
@@ -25,11 +25,11 @@ decisions_of_mode m =
     let M = IsOfMode m in
     let n = length m.tasks in
     all_both M (flat_map (serves m) (below (length m.messages))) _
-      (flat_all M (serves m) (below (length m.messages)) (below_all (λ i. AllByRecursion M (serves m i)) (length m.messages) (λ i l.
-        mapped M (serve i) (below (instance_count m (message_at m i))) (below_all (λ k. M (serve i k)) (instance_count m (message_at m i)) (λ k h. (l, h))))))
-      (flat_all M (orders m) (below n) (below_all (λ a. AllByRecursion M (orders m a)) n (λ a la.
-        flat_all M (ordered m a) (below n) (below_all (λ b. AllByRecursion M (ordered m a b)) n (λ b lb.
-          cond_all M (share m a b) (order a b ∷ []) (λ e. ((ltb-true a b (and_parts (ltb a b) _ e).0, lb), tt)))))))
+    (flat_all M (serves m) (below (length m.messages)) (below_all (λ i. AllByRecursion M (serves m i)) (length m.messages) (λ i l.
+    mapped M (serve i) (below (instance_count m (message_at m i))) (below_all (λ k. M (serve i k)) (instance_count m (message_at m i)) (λ k h. (l, h))))))
+    (flat_all M (orders m) (below n) (below_all (λ a. AllByRecursion M (orders m a)) n (λ a la.
+    flat_all M (ordered m a) (below n) (below_all (λ b. AllByRecursion M (ordered m a b)) n (λ b lb.
+    cond_all M (share m a b) (order a b ∷ []) (λ e. ((ltb-true a b (and_parts (ltb a b) _ e).0, lb), tt)))))))
   where
     mapped : (P : Decision → Type 0) (f : ℕ → Decision) (ks : List ℕ) → AllByRecursion (λ k. P (f k)) ks → AllByRecursion P (map f ks)
     mapped P f [] h = tt
@@ -41,10 +41,10 @@ module _ (m : PlainMode) (r : ℕ) (ok : IsValid m) (some : 1 ≤ r) where
 
   base_inside : AllByRecursion Inside (base m r)
   base_inside = base_all Inside m r (record {
-      rounds = λ j l. ((omega arith, omega arith), (omega arith, omega arith));
-      turn = ((omega arith, omega arith), (omega arith, omega arith));
-      tasks = λ a l. ((omega arith, omega arith), λ e. (omega arith, omega arith));
-      messages = λ i l.
+    rounds = λ j l. ((omega arith, omega arith), (omega arith, omega arith));
+    turn = ((omega arith, omega arith), (omega arith, omega arith));
+    tasks = λ a l. ((omega arith, omega arith), λ e. (omega arith, omega arith));
+    messages = λ i l.
         let a0 = ok.producer i l in
         let b0 = ok.consumer i l in
         record {
@@ -52,8 +52,8 @@ module _ (m : PlainMode) (r : ℕ) (ok : IsValid m) (some : 1 ≤ r) where
           lasts = (omega arith, omega arith);
           to = λ b c. let lb = (ok.edges a0.0 b (message_edge m i a0.0 b l a0.1 c)).to in ((omega arith, omega arith), (omega arith, omega arith));
         };
-      deadlines = λ f lf ef l ll el er. (omega arith, omega arith);
-    })
+    deadlines = λ f lf ef l ll el er. (omega arith, omega arith);
+  })
 
   choice_inside : (d : Decision) (v : ℤ) → IsOfMode m d → AllByRecursion Inside (chosen m r d v)
   choice_inside (serve i k) v w = let j = mod_below (natural v - 1) r some in ((omega (arith, j, w.0), omega (arith, j, w.0)), ((omega (arith, j, w.0), omega (arith, j, w.0)), tt))

@@ -66,6 +66,7 @@ of_chain m r f l = cond (last m l && reaches m f l) (diff (task_var r l) (task_v
 abbrev pub of_first : PlainMode → ℕ → ℕ → List Diff
 of_first m r f = cond (first m f) (flat_map (of_chain m r f) (below (length m.tasks))) []
 
+-- rounds, tasks, messages and chains, in this order
 unfoldable pub base : PlainMode → ℕ → List Diff
 base m r =
     flat_map (next_round m) (below (r - 1))
@@ -89,6 +90,7 @@ serves m i = map (serve i) (below (instance_count m (message_at m i)))
 abbrev pub share : PlainMode → ℕ → ℕ → Bool
 share m a b = nat_lt a b && nat_eq (task_at m a).node (task_at m b).node
 
+-- their pair, where they share a node
 abbrev pub ordered : PlainMode → ℕ → ℕ → List Decision
 ordered m a b = cond (share m a b) (order a b ∷ []) []
 

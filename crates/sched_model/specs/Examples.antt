@@ -21,8 +21,7 @@ task number node wcet period = record { number = number; app = 0; node = node; w
 abbrev pub message : ℕ → ℕ → ℕ → ℕ → PlainMessage
 message number period from to = record { number = number; period = period; deadline = period; from = from ∷ []; to = to ∷ [] }
 
--- ---- a control loop over three nodes: sensing, control, acting
-
+-- a control loop over three nodes: sensing, control, acting
 abbrev pub loop : PlainMode
 loop = record {
   slots = 2;
@@ -68,6 +67,7 @@ loop_plan second = record {
 abbrev pub loop_nodes : List TreeNode
 loop_nodes = Branch ∷ Cycle 0 3 ∷ Branch ∷ Cycle 3 3 ∷ Cycle 6 4 ∷ Cycle 10 4 ∷ Cycle 14 3 ∷ []
 
+-- the numbers of its cycles
 abbrev pub loop_refs : List ℕ
 loop_refs = 17 ∷ 2 ∷ 6 ∷ 19 ∷ 4 ∷ 11 ∷ 19 ∷ 18 ∷ 9 ∷ 11 ∷ 20 ∷ 14 ∷ 16 ∷ 3 ∷ 18 ∷ 7 ∷ 3 ∷ []
 
@@ -86,8 +86,7 @@ pub record LoopExample : Type 0 where
   pub right : IsSchedule loop 2 (loop_plan (pos 23))
   pub early : AllServed loop (loop_plan (pos 22)) → ⊥
 
--- ---- a message of period and deadline 50 in a hyperperiod of 100, and three rounds
-
+-- a message of period and deadline 50 in a hyperperiod of 100
 abbrev pub half : PlainMode
 half = record {
   slots = 2;
@@ -98,13 +97,13 @@ half = record {
   messages = message 0 50 0 1 ∷ [];
 }
 
+-- the second instance follows the first, within the rounds of a hyperperiod
 pub record HalfExample : Type 0 where
   pub twice : instances half ≡ 2
   pub first_choice : alternatives half 3 [] ≡ span (pos 1) (pos 6)
   pub second_choice : alternatives half 3 (pos 2 ∷ []) ≡ pos 3 ∷ pos 4 ∷ []
 
--- ---- two tasks of one node, of periods 4 and 6, of which the second runs this long
-
+-- two tasks of one node, of periods 4 and 6, of which the second runs this long
 abbrev pub shared : ℕ → PlainMode
 shared wcet = record {
   slots = 1;
@@ -115,14 +114,14 @@ shared wcet = record {
   messages = [];
 }
 
+-- the places of the second task between the runs of the first: with a wcet of 1 there are eight, with 2 there is none
 pub record SharedExample : Type 0 where
   pub hyperperiod : hyper (shared 1) ≡ 12
   pub places : alternatives (shared 1) 1 [] ≡ span (negsuc 2) (pos 4)
   pub constraints : (vars (shared 1) 1 ≡ 3) × (chosen (shared 1) 1 (order 0 1) (negsuc 1) ≡ diff 1 2 (pos 3) ∷ diff 2 1 (negsuc 2) ∷ [])
   pub none : alternatives (shared 2) 1 [] ≡ []
 
--- ---- one task, no message, and rounds at most 40 ticks apart
-
+-- one task, no message, and rounds at most 40 ticks apart
 abbrev pub blink : PlainMode
 blink = record { slots = 2; round = 10; gap = 40; periods = 100 ∷ []; tasks = task 0 1 3 100 ∷ []; messages = [] }
 

@@ -12,5 +12,7 @@ pub mod ScheduleList
 pub mod TimeLimits
 pub mod RefutationTree
 pub mod ValidMode
+pub mod ModeLimits
+pub mod ProblemLimits
 pub mod Laws
 pub mod Examples

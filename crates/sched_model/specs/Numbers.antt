@@ -1,5 +1,5 @@
--- Lists of numbers, multiples and divisors
-use Rattle.std.specs.Prelude.{ℕ, zero, suc, ◌+◌, ◌%◌, Bool, true, not, ◌&&◌, cond, nat_eq, List, [], ◌∷◌, ◌++◌, ℤ, pos, negsuc, ◌+ℤ◌, ◌-ℤ◌}
+-- Lists of numbers, and divisors
+use Rattle.std.specs.Prelude.{ℕ, zero, suc, ◌%◌, Bool, true, not, ◌&&◌, cond, nat_eq, List, [], ◌∷◌, ◌++◌, ℤ, pos, negsuc, ◌+ℤ◌, ◌-ℤ◌}
 use Rattle.std.specs.List.{list_any}
 
 -- the numbers below n, ascending
@@ -29,15 +29,6 @@ counted low (suc n) = low ∷ counted (low +ℤ pos 1) n
 -- the whole numbers from low to high, ascending; none where low is above high
 abbrev pub span : ℤ → ℤ → List ℤ
 span low high = counted low (natural (high +ℤ pos 1 -ℤ low))
-
--- the first of k, k + a, .. that b divides, in at most n steps
-abbrev pub multiple_from : ℕ → ℕ → ℕ → ℕ → ℕ
-multiple_from zero k a b = k
-multiple_from (suc n) k a b = cond (nat_eq (k % b) 0) k (multiple_from n (k + a) a b)
-
--- the least common multiple of two positive numbers: the first multiple of a that b divides
-abbrev pub lcm : ℕ → ℕ → ℕ
-lcm a b = multiple_from b a a b
 
 -- the greatest of 1 to n that divides both
 abbrev pub divisor_below : ℕ → ℕ → ℕ → ℕ

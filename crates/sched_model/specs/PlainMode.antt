@@ -6,7 +6,8 @@ use Rattle.app_graph.specs.declared.mode_set.ModeSet.{ModeSet}
 use Rattle.app_graph.specs.declared.mode_set.Mode.{Mode}
 use Rattle.app_graph.specs.declared.mode_set.App.{App}
 use Rattle.app_graph.specs.declared.mode_set.Task.{Task}
-use Rattle.sched_model.specs.Numbers.{below, lcm}
+use Rattle.app_graph.specs.Hyperperiod.{lcm}
+use Rattle.sched_model.specs.Numbers.{below}
 
 -- a task: its number over the file, the places of its application and node, how long a run takes, and its application's period and deadline
 pub record PlainTask : Type 0 where
@@ -84,6 +85,7 @@ abbrev pub place_of : List TaskOfApp → ℕ → ℕ
 place_of [] number = 0
 place_of (t ∷ ts) number = cond (nat_eq t.task.number number) 0 (suc (place_of ts number))
 
+-- the task in plain numbers
 abbrev pub plain_task : TaskOfApp → PlainTask
 plain_task t = record { number = t.task.number; app = t.place; node = t.task.node; wcet = unsigned_abs t.task.wcet; period = unsigned_abs t.app.period; deadline = unsigned_abs t.app.deadline }
 

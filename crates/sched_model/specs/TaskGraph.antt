@@ -8,6 +8,7 @@ use Rattle.sched_model.specs.PlainMode.{PlainMode}
 abbrev pub edge : PlainMode → ℕ → ℕ → Bool
 edge m a b = list_any (λ msg. has msg.from a && has msg.to b) m.messages
 
+-- the same as a fact
 abbrev pub IsEdge : PlainMode → ℕ → ℕ → Type 0
 IsEdge m a b = edge m a b ≡ true
 

@@ -1,5 +1,5 @@
 -- The times that a schedule may have
-use Rattle.std.specs.Prelude.{ℕ, All, ℤ, pos, ◌≤ℤ◌}
+use Rattle.std.specs.Prelude.{All, ℤ, pos, ◌≤ℤ◌}
 use Rattle.sched_model.specs.declared.schedule.Schedule.{Schedule}
 
 -- from 0 to 2,000,000,000,000 ticks

@@ -3,8 +3,10 @@
 
 pub mod examples;
 pub mod laws;
+mod numbers;
 mod schedule;
 mod trees;
 
+pub use numbers::{hyper, instances, most_rounds};
 pub use schedule::Schedule;
 pub use trees::TreeNode;

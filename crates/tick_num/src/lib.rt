@@ -7,3 +7,6 @@ mod numbers;
 
 pub use differences::Diff;
 pub use numbers::{Time, floor_div, gcd, lcm_up_to};
+
+#[cfg(test)]
+mod tests;

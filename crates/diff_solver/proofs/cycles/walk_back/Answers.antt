@@ -1,5 +1,5 @@
 use Rattle.std.proofs.Common.{◌<◌, ◌∙◌, sym, ap, subst, arith, length}
-use Rattle.diff_solver.specs.Causes.{before, back}
+use Rattle.diff_solver.specs.Causes.{before}
 use Rattle.diff_solver.proofs.Back.{back_start, back_next, back_low}
 use Rattle.diff_solver.proofs.cycles.walk_back.Goals as goal
 

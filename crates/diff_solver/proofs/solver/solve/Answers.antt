@@ -1,4 +1,4 @@
-use Rattle.std.proofs.Common.{arith, refl}
+use Rattle.std.proofs.Common.{refl}
 use Rattle.tick_num.proofs.Cycles.{cycles_exclude}
 use Rattle.diff_solver.proofs.solver.solve.Goals as goal
 

@@ -9,6 +9,6 @@ use Rattle.sched_model.proofs.laws.own_trees_count_visits.Goals as goal
 pub returns : goal.returns
 returns c = λ m r.
     let count : (nodes : List Node) → IsOwnTree m r nodes → Visited m r (length nodes) = λ nodes t.
-      let w = tree_count m r (length (decisions m)) [] nodes [] t in
-      subst (Visited m r) (let e : w.0 ≡ length nodes = omega (arith, w.2) in e) w.1 in
+    let w = tree_count m r (length (decisions m)) [] nodes [] t in
+    subst (Visited m r) (let e : w.0 ≡ length nodes = omega (arith, w.2) in e) w.1 in
     (count, λ nodes refs t. subst (Visited m r) (length-map nodes (node_of refs)) (count (map (node_of refs) nodes) t.tree))

@@ -1,0 +1,18 @@
+//! From a mode file as it is written to a mode set.
+
+ghost use Rattle.app_graph.specs.Validation.{Validates};
+
+use crate::faults::GraphFault;
+use crate::mode_rules::check_set;
+use crate::mode_set::ModeSet;
+use crate::numbering::number_set;
+use crate::raw::RawSet;
+use std::alloc::Global;
+
+/// The mode set that the file says. Errors: the fault of the first broken rule on values and graphs; want of memory.
+pub fn validate(alloc: Global, raw: &RawSet) -> Result<ModeSet, GraphFault>
+    ensures { Validates raw.now result }
+{
+    check_set(alloc, raw)?;
+    Ok(number_set(alloc, raw)?)
+}

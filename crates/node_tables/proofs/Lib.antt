@@ -1,0 +1,4 @@
+pub mod FieldLemmas
+pub mod ListLemmas
+pub mod Codecs
+pub mod Images

@@ -1,0 +1,67 @@
+-- The image of a node's table, version 1.
+use Rattle.std.specs.Prelude.{◌≡◌, ℕ, ℤ, pos, negsuc, List, [], ◌∷◌, ◌++◌, length, map}
+use Rattle.std.specs.List.{flat_map}
+use Rattle.node_tables.specs.declared.tables.NodeTable.{NodeTable}
+use Rattle.node_tables.specs.declared.tables.ModeTable.{ModeTable}
+use Rattle.node_tables.specs.declared.tables.OwnTask.{OwnTask}
+use Rattle.node_tables.specs.declared.tables.OwnMessage.{OwnMessage}
+use Rattle.node_tables.specs.declared.tables.OwnRound.{OwnRound}
+use Rattle.node_tables.specs.declared.tables.OwnSlot.{OwnSlot}
+use Rattle.node_tables.specs.Fields.{Field, Byte, Short, Long, bytes, AreInRange}
+
+abbrev pub slot_fields : OwnSlot → List Field
+slot_fields s =
+    Byte 1 32 s.slot
+    ∷ Short 0 511 s.message
+    ∷ Long (negsuc 999999999999) (pos 1000000000000) s.release
+    ∷ []
+
+abbrev pub round_fields : OwnRound → List Field
+round_fields r =
+    Long (pos 0) (pos 1000000000000) r.start
+    ∷ Byte 0 32 (length r.slots)
+    ∷ flat_map slot_fields r.slots
+
+-- the number of a task
+abbrev pub task_field : ℕ → List Field
+task_field n = Short 0 1023 n ∷ []
+
+abbrev pub message_fields : OwnMessage → List Field
+message_fields m =
+    Short 0 511 m.number
+    ∷ Byte 1 3 m.role
+    ∷ Byte 1 4 (length m.producers)
+    ∷ (flat_map task_field m.producers
+    ++ Byte 0 16 (length m.consumers)
+    ∷ flat_map task_field m.consumers)
+
+abbrev pub task_fields : OwnTask → List Field
+task_fields t =
+    Short 0 1023 t.number
+    ∷ Long (pos 1) (pos 1000000000) t.period
+    ∷ Long (pos 0) (pos 2000000000000) t.offset
+    ∷ Long (pos 1) t.period t.wcet
+    ∷ []
+
+abbrev pub mode_fields : ModeTable → List Field
+mode_fields m =
+    Long (pos 1) (pos 1000000000000) m.hyper
+    ∷ Short 1 2048 m.first_round
+    ∷ Short 1 256 (length m.rounds)
+    ∷ Short 0 128 (length m.tasks)
+    ∷ (flat_map task_fields m.tasks
+    ++ Short 0 64 (length m.messages)
+    ∷ (flat_map message_fields m.messages
+    ++ flat_map round_fields m.rounds))
+
+abbrev pub table_fields : NodeTable → List Field
+table_fields t =
+    Byte 1 1 1
+    ∷ Byte 0 63 t.node
+    ∷ Byte 1 8 (length t.modes)
+    ∷ flat_map mode_fields t.modes
+
+-- the bytes are the fields of the table, each in its range
+pub record Image (t : NodeTable) (image : List ℕ) : Type 0 where
+  pub ranges : AreInRange (table_fields t)
+  pub fields : image ≡ bytes (table_fields t)

@@ -1,0 +1,32 @@
+//! Images of node tables.
+
+ghost use Rattle.std.specs.Prelude.{◌≡◌, ◌≢◌, ◌⊎◌, ◌++◌, Ok, Err, IfOk, IfErr, OnOk, OnErr};
+ghost use Rattle.node_tables.specs.Image.{Image};
+ghost use Rattle.node_tables.specs.Reading as reads;
+ghost use Rattle.node_tables.specs.declared.fault.ImageFault.TheVariants.{Memory};
+ghost use Rattle.node_tables.specs.declared.tables.NodeTable.{NodeTable};
+
+use std::alloc::Global;
+
+use crate::entries::Entry;
+use crate::fault::ImageFault;
+use crate::reader::Reader;
+use crate::tables::NodeTable;
+
+/// The table that has this image. The first fault in the order of the bytes decides.
+pub fn read_image(alloc: Global, bytes: &[u8]) -> Result<NodeTable, ImageFault>
+    ensures ok { IfOk result (λ t. reads.read bytes.now ≡ Ok t) }
+    ensures err { IfErr result (λ fault. fault ≢ Memory → reads.read bytes.now ≡ Err fault) }
+
+    // It is the one table with this image, and an image gives its table where memory is left.
+    ensures image { IfOk result (λ t. Image t bytes.now) }
+    ensures only { (t : NodeTable) → Image t bytes.now
+        → (result ≡ Ok t) ⊎ (result ≡ Err Memory) }
+{
+    let mut reader = Reader::new(bytes);
+    let table = NodeTable::read(alloc, &mut reader)?;
+    if !reader.is_at_end() {
+        return Err(ImageFault::Trailing);
+    }
+    Ok(table)
+}

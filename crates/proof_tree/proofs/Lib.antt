@@ -1,0 +1,11 @@
+pub mod WrittenLemmas
+pub mod DocumentLemmas
+pub mod TreeReading
+pub mod ScheduleReading
+pub mod ScheduleWriting
+pub mod DocumentReading
+pub mod TreeRefuting
+pub mod FewestRounds
+pub mod DocumentWriting
+pub mod DocumentAnswers
+pub mod LineReading

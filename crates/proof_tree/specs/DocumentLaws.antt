@@ -1,0 +1,34 @@
+-- Laws of plan documents.
+use Rattle.std.specs.Prelude.{◌≡◌, ℕ, ◌⊎◌, List, length, Option}
+use Rattle.std.specs.List.{AllZip, AllByRecursion}
+use Rattle.sched_model.specs.PlainMode.{PlainMode}
+use Rattle.sched_model.specs.RightSchedule.{IsSchedule}
+use Rattle.sched_model.specs.ValidMode.{IsValid}
+use Rattle.sched_model.specs.declared.schedule.Schedule.{Schedule}
+use Rattle.proof_tree.specs.Accepting.{DocMode, AcceptedFor}
+use Rattle.proof_tree.specs.Reading.{Refusal}
+use Rattle.proof_tree.specs.Refusing.{BreaksFirst, RefusedFor}
+use Rattle.proof_tree.specs.Fewest.{IsBest}
+
+abbrev pub AllValid : List DocMode → Type 0
+AllValid modes = AllByRecursion (λ d. IsValid d.mode) modes
+
+-- a document has at most one list of plans, at most one refusal, and not both
+abbrev pub AnswersAreOne : Type 0
+AnswersAreOne = (modes : List DocMode) (bytes : List ℕ) → AllValid modes →
+    ((p q : List (Option Schedule)) → AcceptedFor modes bytes p → AcceptedFor modes bytes q → p ≡ q)
+    × ((f g : Refusal) → RefusedFor modes bytes f → RefusedFor modes bytes g → f ≡ g)
+    × ((p : List (Option Schedule)) (f : Refusal) → AcceptedFor modes bytes p → RefusedFor modes bytes f → ⊥)
+
+-- each schedule is right or breaks a first clause
+abbrev pub IsDecided : Type 0
+IsDecided = (m : PlainMode) (s : Schedule) → IsSchedule m (length s.starts) s ⊎ ((clause : ℕ) × BreaksFirst m s clause)
+
+-- a document is accepted or refused
+abbrev pub OneAnswers : Type 0
+OneAnswers = IsDecided → (modes : List DocMode) (bytes : List ℕ) →
+    ((plans : List (Option Schedule)) × AcceptedFor modes bytes plans) ⊎ ((f : Refusal) × RefusedFor modes bytes f)
+
+-- an accepted schedule has the fewest rounds, and where a mode has none, none is right
+abbrev pub AcceptedAreBest : Type 0
+AcceptedAreBest = (modes : List DocMode) (bytes : List ℕ) (plans : List (Option Schedule)) → AllValid modes → AcceptedFor modes bytes plans → AllZip IsBest modes plans

@@ -1,0 +1,16 @@
+pub mod Items
+pub mod Written
+pub mod Names
+pub mod WordSpelling
+pub mod PlanText
+pub mod Grammar
+pub mod PlanLines
+pub mod TreeLines
+pub mod Accepting
+pub mod Reading
+pub mod Refusing
+pub mod Fewest
+pub mod DocumentLaws
+pub mod Spelled
+pub mod OwnDocument
+pub mod Examples

@@ -1,0 +1,14 @@
+//! What the definitions say of small documents.
+
+ghost use Rattle.proof_tree.specs.Examples.{LineRows, PlaceRows};
+ghost use Rattle.sched_model.specs.PlainMode.{PlainMode};
+
+/// The lines of a plan, and lines that have no form.
+pub fn line_rows()
+    ensures { LineRows }
+{}
+
+/// Documents that end well, and where others are refused.
+pub fn place_rows()
+    ensures { (m : PlainMode) → PlaceRows m }
+{}

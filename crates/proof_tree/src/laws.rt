@@ -1,0 +1,24 @@
+//! Laws of plan documents.
+
+ghost use Rattle.proof_tree.specs.DocumentLaws.{AcceptedAreBest, AnswersAreOne, OneAnswers};
+ghost use Rattle.proof_tree.specs.Spelled.{LinesAreExact};
+
+/// A line is read as a meaning exactly where it is the one spelling of that meaning.
+pub fn lines_are_exact()
+    ensures { LinesAreExact }
+{}
+
+/// A document has at most one list of plans, at most one refusal, and not both.
+pub fn answers_are_one()
+    ensures { AnswersAreOne }
+{}
+
+/// A document is accepted with some plans, or refused.
+pub fn one_answers()
+    ensures { OneAnswers }
+{}
+
+/// Of an accepted document each schedule has the fewest rounds, and a mode without one has no right schedule.
+pub fn accepted_are_best()
+    ensures { AcceptedAreBest }
+{}
