@@ -77,12 +77,17 @@ schedule_is d r at x e =
     let told : Told = record { starts = a.0.0; tasks = b.0.0; messages = c.0.0; tables = t.0.0 } in
     let j = ok_is (Some (schedule_of told), t.0.1) x t.2 in
     let s = starts_is r at.line at.rest a.0 a.1 in
-    let end : t.0.1.rest ≡ x.1.rest = ap (λ (z : Option Schedule × Place). z.1.rest) j in
-    (told,
+    let end : t.0.1.rest ≡ x.1.rest = ap (λ (z : Option Schedule × Place). z.1.rest) j in (
+      told,
       subst (λ (l : Items). Tells d r told at.rest l) end (record {
-        counted = s.0; first = a.0.1.rest; second = b.0.1.rest; third = c.0.1.rest; starts = s.1;
+        counted = s.0;
+        first = a.0.1.rest;
+        second = b.0.1.rest;
+        third = c.0.1.rest;
+        starts = s.1;
         tasks = each_is (λ name to. task_at name to (next_item to.rest)) OneTask (λ name to y f. task_is name to.line to.rest y f) d.tasks a.0.1 b.0 b.1;
         messages = each_is (λ name to. message_at name to (next_item to.rest)) OneMessage (λ name to y f. message_is name to.line to.rest y f) d.messages b.0.1 c.0 c.1;
         tables = each_is (λ i to. table_at d (i + 1) to (next_item to.rest)) (OneTable d) (λ i to y f. table_is d i to.line to.rest y f) (below r) c.0.1 t.0 t.1;
       }),
-      sym (ap (λ (z : Option Schedule × Place). z.0) j))
+      sym (ap (λ (z : Option Schedule × Place). z.0) j),
+    )

@@ -24,11 +24,11 @@ pub record DocMode : Type 0 where
 
 abbrev pub doc_mode : ModeSet → Mode → DocMode
 doc_mode set mode = record {
-    name = mode.name;
-    tasks = map (λ task. task.name) (tasks_in mode.apps);
-    messages = map (λ message. message.name) (messages_in mode.apps);
-    mode = plain_mode set mode;
-  }
+  name = mode.name;
+  tasks = map (λ task. task.name) (tasks_in mode.apps);
+  messages = map (λ message. message.name) (messages_in mode.apps);
+  mode = plain_mode set mode;
+}
 
 abbrev pub doc_modes : ModeSet → List DocMode
 doc_modes set = map (doc_mode set) set.modes
