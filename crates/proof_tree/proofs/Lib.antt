@@ -9,3 +9,4 @@ pub mod FewestRounds
 pub mod DocumentWriting
 pub mod DocumentAnswers
 pub mod LineReading
+pub mod TextReading

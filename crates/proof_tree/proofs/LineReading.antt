@@ -54,7 +54,7 @@ parts_joined : (w : List ℕ) (ws : List (List ℕ)) → IsWord w → AllByRecur
 parts_joined w [] h hs = parts_alone w h
 parts_joined w (v ∷ vs) h hs = parts-append w (join_with_byte 32 (v ∷ vs)) h ∙ ap (λ (l : List (List ℕ)). w ∷ l) (parts_joined v vs hs.0 hs.1)
 
-first_is_word : (i : Item) → IsWord (first_word i)
+pub first_is_word : (i : Item) → IsWord (first_word i)
 first_is_word Head = name_is_word (codes "ttw") refl
 first_is_word (ModeNamed n) = name_is_word (codes "mode") refl
 first_is_word (Refute r) = name_is_word (codes "refute") refl
@@ -78,7 +78,7 @@ names_are_words : (ns : List (List ℕ)) → list_all is_name ns ≡ true → Al
 names_are_words [] h = tt
 names_are_words (n ∷ ns) h = let b = both (is_name n) (list_all is_name ns) h in (name_is_word n b.0, names_are_words ns b.1)
 
-others_are_words : (i : Item) → is_writable i ≡ true → AllByRecursion IsWord (other_words i)
+pub others_are_words : (i : Item) → is_writable i ≡ true → AllByRecursion IsWord (other_words i)
 others_are_words Head h = (name_is_word (codes "1") refl, tt)
 others_are_words (ModeNamed n) h = (name_is_word n h, tt)
 others_are_words (Refute r) h = (spelled_is_word r, tt)

@@ -1,6 +1,6 @@
 //! Laws of plan documents.
 
-ghost use Rattle.proof_tree.specs.DocumentLaws.{AcceptedAreBest, AnswersAreOne, OneAnswers};
+ghost use Rattle.proof_tree.specs.DocumentLaws.{AcceptedAreBest, AnswersAreOne, OneAnswers, TextsAreRead};
 ghost use Rattle.proof_tree.specs.Spelled.{LinesAreExact};
 
 /// A line is read as a meaning exactly where it is the one spelling of that meaning.
@@ -21,4 +21,9 @@ pub fn one_answers()
 /// Of an accepted document each schedule has the fewest rounds, and a mode without one has no right schedule.
 pub fn accepted_are_best()
     ensures { AcceptedAreBest }
+{}
+
+/// The text of lines is read back, line by line, where it is within the limits.
+pub fn texts_are_read()
+    ensures { TextsAreRead }
 {}
