@@ -10,3 +10,4 @@ pub mod DocumentWriting
 pub mod DocumentAnswers
 pub mod LineReading
 pub mod TextReading
+pub mod TreeStanding

@@ -1,10 +1,14 @@
 -- Laws of plan documents.
-use Rattle.std.specs.Prelude.{◌≡◌, ℕ, ◌≤◌, ◌⊎◌, true, List, ◌∷◌, length, map, Option, Some}
+use Rattle.std.specs.Prelude.{◌≡◌, ℕ, ◌≤◌, ◌⊎◌, true, List, ◌∷◌, ◌++◌, length, map, Option, Some}
 use Rattle.std.specs.List.{AllZip, AllByRecursion, join_with_byte}
 use Rattle.sched_model.specs.PlainMode.{PlainMode}
 use Rattle.sched_model.specs.RightSchedule.{IsSchedule}
 use Rattle.sched_model.specs.ValidMode.{IsValid}
 use Rattle.sched_model.specs.declared.schedule.Schedule.{Schedule}
+use Rattle.sched_model.specs.RefutationTree.{ValidTree}
+use Rattle.proof_tree.specs.declared.tree.Tree.{Tree}
+use Rattle.proof_tree.specs.PlanText.{tree_items}
+use Rattle.proof_tree.specs.TreeLines.{Items, TreeStands}
 use Rattle.proof_tree.specs.Items.{Item, first_word, other_words, text_of}
 use Rattle.proof_tree.specs.Spelled.{is_writable}
 use Rattle.proof_tree.specs.Accepting.{DocMode, AcceptedFor, items_of, limit, longest}
@@ -43,3 +47,7 @@ pub record HasRoom (item : Item) : Type 0 where
 -- the text of lines is read back, line by line, where it is within the limits
 abbrev pub TextsAreRead : Type 0
 TextsAreRead = (items : List Item) → AllByRecursion HasRoom items → length (text_of items) ≤ limit → items_of (text_of items) ≡ map Some items
+
+-- the lines of a valid tree stand for it, whatever comes behind them
+abbrev pub TreesStand : Type 0
+TreesStand = (m : PlainMode) (r : ℕ) (tree : Tree) (rest : Items) → ValidTree m r tree.nodes tree.refs → TreeStands m r (map (λ item. Some item) (tree_items tree) ++ rest) rest

@@ -1,6 +1,6 @@
 //! Laws of plan documents.
 
-ghost use Rattle.proof_tree.specs.DocumentLaws.{AcceptedAreBest, AnswersAreOne, OneAnswers, TextsAreRead};
+ghost use Rattle.proof_tree.specs.DocumentLaws.{AcceptedAreBest, AnswersAreOne, OneAnswers, TextsAreRead, TreesStand};
 ghost use Rattle.proof_tree.specs.Spelled.{LinesAreExact};
 
 /// A line is read as a meaning exactly where it is the one spelling of that meaning.
@@ -26,4 +26,9 @@ pub fn accepted_are_best()
 /// The text of lines is read back, line by line, where it is within the limits.
 pub fn texts_are_read()
     ensures { TextsAreRead }
+{}
+
+/// The lines of a valid tree stand for it.
+pub fn trees_stand()
+    ensures { TreesStand }
 {}
