@@ -1,14 +1,14 @@
 -- A document has one answer.
 use Rattle.std.proofs.Common.{◌≡◌, ℕ, zero, suc, ◌+◌, ◌<◌, ◌≤◌, List, [], ◌∷◌, length, Option, Some, None, Result, Ok, Err, refl, sym, ap, subst, ◌∙◌, arith, ◌⊎◌, inl, inr, ⊎_elim}
-use Rattle.std.specs.List.{AllZip, AllByRecursion}
+use Rattle.std.specs.List.{AllZip}
 use Rattle.std.proofs.lemmas.Bool.{cases_lt}
 use Rattle.sched_model.specs.PlainMode.{PlainMode}
 use Rattle.sched_model.specs.RightSchedule.{IsSchedule}
 use Rattle.sched_model.specs.declared.schedule.Schedule.{Schedule}
 use Rattle.proof_tree.specs.TreeLines.{Items}
-use Rattle.proof_tree.specs.Accepting.{DocMode, EachIs, IsMode, IsPlan, IsRight, AcceptedFor, items_of}
-use Rattle.proof_tree.specs.Reading.{Refusal, Clause, Place, Reading, read_document}
-use Rattle.proof_tree.specs.Refusing.{Keeps, BreaksFirst, RefusedFrom, RefusedFor}
+use Rattle.proof_tree.specs.Accepting.{DocMode, EachIs, IsMode, IsRight, items_of}
+use Rattle.proof_tree.specs.Reading.{Refusal, Clause, Place, read_document}
+use Rattle.proof_tree.specs.Refusing.{Keeps, BreaksFirst, RefusedFrom}
 use Rattle.proof_tree.specs.Fewest.{IsBest}
 use Rattle.proof_tree.specs.DocumentLaws.{AllValid, AnswersAreOne, IsDecided, OneAnswers, AcceptedAreBest}
 use Rattle.proof_tree.proofs.DocumentReading.{document_is}

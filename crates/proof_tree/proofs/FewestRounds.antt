@@ -1,5 +1,5 @@
 -- The certificates of an accepted mode show that its schedule has the fewest rounds, or that it has none.
-use Rattle.std.proofs.Common.{◌≡◌, ℕ, zero, suc, ◌+◌, ◌-◌, ◌*◌, ◌/◌, ◌<◌, ◌≤◌, List, [], ◌∷◌, ◌++◌, length, map, get_or, refl, sym, ◌∙◌, ap, subst, arith, ℤ, pos, ◌+ℤ◌, ◌≤ℤ◌, Option, Some, None, ⊎_elim}
+use Rattle.std.proofs.Common.{◌≡◌, ℕ, zero, suc, ◌+◌, ◌*◌, ◌<◌, ◌≤◌, length, sym, ◌∙◌, ap, subst, arith, pos, ◌≤ℤ◌, Option, Some, None, ⊎_elim}
 use Rattle.std.proofs.lemmas.Int.{ints}
 use Rattle.std.proofs.lemmas.Bool.{cases_lt}
 use Rattle.std.proofs.lemmas.Nat.{le-div}
@@ -7,11 +7,10 @@ use Rattle.std.proofs.lemmas.List.{length-map}
 use Rattle.sched_model.specs.declared.schedule.Schedule.{Schedule}
 use Rattle.sched_model.specs.PlainMode.{PlainMode, hyper, most_rounds}
 use Rattle.sched_model.specs.Rounds.{round_start}
-use Rattle.sched_model.specs.RightSchedule.{IsSchedule, RoundsFit, Fewest, NoSchedule}
+use Rattle.sched_model.specs.RightSchedule.{IsSchedule, RoundsFit}
 use Rattle.sched_model.specs.ValidMode.{IsValid}
-use Rattle.proof_tree.specs.Items.{Item, Refute}
 use Rattle.proof_tree.specs.TreeLines.{Items, TreesFrom, TreeStands}
-use Rattle.proof_tree.specs.Accepting.{DocMode, Told, schedule_of, Tells, ModeEnds, IsMode, IsRight}
+use Rattle.proof_tree.specs.Accepting.{DocMode, ModeEnds, IsMode, IsRight}
 use Rattle.proof_tree.specs.Fewest.{IsBest}
 use Rattle.proof_tree.proofs.TreeRefuting.{lines_refute}
 

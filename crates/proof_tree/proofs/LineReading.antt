@@ -1,5 +1,5 @@
 -- A line is read as what it says.
-use Rattle.std.proofs.Common.{◌≡◌, ℕ, zero, suc, ◌<◌, ◌≤◌, Bool, true, false, cond, ◌&&◌, leb, ltb, List, [], ◌∷◌, ◌++◌, length, map, Option, Some, None, refl, sym, ap, subst, ◌∙◌, arith, ◌⊎◌, inl, inr, ⊎_elim, ◌^◌}
+use Rattle.std.proofs.Common.{◌≡◌, ℕ, ◌<◌, ◌≤◌, Bool, true, false, cond, ◌&&◌, leb, ltb, List, [], ◌∷◌, length, map, Option, Some, None, refl, sym, ap, subst, ◌∙◌, arith, ◌⊎◌, inl, inr, ⊎_elim, ◌^◌}
 use Rattle.std.specs.Prelude.{codes, option_map, is_some, unwrap_or}
 use Rattle.std.specs.Option.{option_and_then}
 use Rattle.std.specs.List.{list_all, join_with_byte, AllByRecursion}
@@ -13,7 +13,7 @@ use Rattle.ttw_text.specs.Words.{parts, IsWord}
 use Rattle.ttw_text.proofs.Spellings.{number_of-spelled, number_of-only}
 use Rattle.ttw_text.proofs.WordLemmas.{parts-append, parts_alone, name_is_word, spelled_is_word}
 use Rattle.proof_tree.specs.Items.{Item, Head, ModeNamed, Refute, Branch, Short, Full, Cycle, ScheduleOf, Start, TaskAt, MessageAt, TableOf, Absent, End, first_word, other_words}
-use Rattle.proof_tree.specs.Grammar.{greatest, plan_number, is_number, value, alone, only, one_number, one_name, some_numbers, number_names, is_one, name_number, two_numbers, name_numbers, form, item_of_words, item_of}
+use Rattle.proof_tree.specs.Grammar.{greatest, plan_number, is_number, value, alone, one_number, one_name, some_numbers, number_names, is_one, name_number, two_numbers, name_numbers, form, item_of_words, item_of}
 use Rattle.proof_tree.specs.Spelled.{fits, is_writable, Says, LinesAreExact}
 
 both : (a b : Bool) → (a && b) ≡ true → (a ≡ true) × (b ≡ true)

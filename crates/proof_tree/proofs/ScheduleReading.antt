@@ -1,18 +1,16 @@
 -- What is read of a schedule stands there.
-use Rattle.std.proofs.Common.{◌≡◌, ℕ, zero, suc, ◌+◌, ◌-◌, ◌≤◌, ◌<◌, Bool, true, false, cond, eqb, List, [], ◌∷◌, ◌++◌, length, map, Option, Some, None, Ok, Err, refl, sym, ap, subst, ◌∙◌, arith, ◌⊎◌, inl, inr, ⊎_elim}
-use Rattle.std.specs.List.{list_all, enumerate_from}
+use Rattle.std.proofs.Common.{◌≡◌, ℕ, ◌+◌, Bool, true, false, cond, eqb, List, [], ◌∷◌, length, map, Option, Some, None, Ok, Err, refl, sym, ap, subst}
+use Rattle.std.specs.List.{list_all}
 use Rattle.std.specs.Str.{bytes_eq}
-use Rattle.std.proofs.lemmas.Bool.{eqb-true, cases_Bool}
+use Rattle.std.proofs.lemmas.Bool.{eqb-true}
 use Rattle.std.proofs.lemmas.Slice.Eq.{bytes_eq-Decides}
-use Rattle.sched_model.specs.PlainMode.{PlainMode}
 use Rattle.sched_model.specs.Numbers.{below}
-use Rattle.sched_model.specs.RightSchedule.{IsSchedule}
 use Rattle.sched_model.specs.declared.schedule.Schedule.{Schedule}
-use Rattle.proof_tree.specs.Items.{Item, Head, ModeNamed, Refute, Branch, Short, Full, Cycle, ScheduleOf, Start, TaskAt, MessageAt, TableOf, Absent, End}
+use Rattle.proof_tree.specs.Items.{Start, TaskAt, MessageAt, TableOf}
 use Rattle.proof_tree.specs.TreeLines.{Items}
 use Rattle.proof_tree.specs.Accepting.{DocMode, EachIs, OneTask, OneMessage, OneTable, Told, schedule_of, Tells, is_message, number_of}
-use Rattle.proof_tree.specs.Reading.{Refusal, Grammar, Names, Clause, BadLeaf, Extra, MissingCount, Unfinished, Place, Read, ◌>>=◌, next_item, after, each, due, starts_at, task_at, message_at, table_at, schedule}
-use Rattle.proof_tree.proofs.TreeReading.{place, bind_ok, good, ok_is, refused, tree_gives}
+use Rattle.proof_tree.specs.Reading.{Refusal, Grammar, Names, Place, Read, ◌>>=◌, next_item, each, due, starts_at, task_at, message_at, table_at, schedule}
+use Rattle.proof_tree.proofs.TreeReading.{place, bind_ok, ok_is, refused}
 
 pub each_is : {A B : Type 0} (R : A → Place → Read B) (V : A → B → Items → Items → Type 0) → ((a : A) (at : Place) (x : B × Place) → R a at ≡ Ok x → V a x.0 at.rest x.1.rest)
     → (bs : List A) (at : Place) (y : List B × Place) → each R bs at ≡ Ok y → EachIs V bs y.0 at.rest y.1.rest

@@ -1,10 +1,10 @@
 -- A whole tree is read exactly where its lines are those of a valid one.
-use Rattle.std.proofs.Common.{◌≡◌, ℕ, zero, suc, ◌+◌, Bool, true, false, ℤ, List, [], ◌∷◌, ◌++◌, length, Option, Some, None, Ok, Err, refl, sym, ap, subst, ◌∙◌}
+use Rattle.std.proofs.Common.{◌≡◌, ℕ, zero, suc, ◌+◌, Bool, true, false, ℤ, List, [], ◌∷◌, ◌++◌, length, Some, None, Ok, Err, refl, sym, ap, subst}
 use Rattle.sched_model.specs.PlainMode.{PlainMode}
 use Rattle.sched_model.specs.ConstraintProblem.{alternatives, decisions}
-use Rattle.proof_tree.specs.Items.{Item, Head, ModeNamed, Refute, Branch, Short, Full, Cycle, ScheduleOf, Start, TaskAt, MessageAt, TableOf, Absent, End}
+use Rattle.proof_tree.specs.Items.{Head, ModeNamed, Refute, Branch, Short, Full, Cycle, ScheduleOf, Start, TaskAt, MessageAt, TableOf, Absent, End}
 use Rattle.proof_tree.specs.TreeLines.{Items, leaf_holds, EachOf, ValidLines, TreeStands}
-use Rattle.proof_tree.specs.Reading.{Refusal, Place, Read, ◌>>=◌, next_item, after, each, leaf_end, not_node, tree_at, tree, BadLeaf, Grammar, Unfinished}
+use Rattle.proof_tree.specs.Reading.{Refusal, Place, Read, ◌>>=◌, next_item, each, leaf_end, tree_at, tree, BadLeaf, Grammar, Unfinished}
 
 abbrev pub place : ℕ → Items → Place
 place k ls = record { line = k; rest = ls }

@@ -1,21 +1,18 @@
 -- The lines of a valid tree stand for it.
-use Rattle.std.proofs.Common.{◌≡◌, ℕ, zero, suc, ◌+◌, ◌-◌, ◌*◌, ◌<◌, ◌≤◌, Bool, true, false, not, ◌&&◌, eqb, ltb, leb, List, [], ◌∷◌, ◌++◌, length, map, refl, sym, ◌∙◌, ap, subst, arith, ℤ, pos, ◌<ℤ◌, Option, Some, None, eq-eqb}
+use Rattle.std.proofs.Common.{◌≡◌, ℕ, zero, suc, ◌-◌, ◌<◌, Bool, true, false, ◌&&◌, eqb, ltb, leb, List, [], ◌∷◌, ◌++◌, length, map, refl, ap, subst, arith, ℤ, pos, ◌<ℤ◌, Some, eq-eqb}
 use Rattle.std.specs.Prelude.{int_lt, All}
 use Rattle.std.specs.List.{list_all}
 use Rattle.std.specs.Int.Signed.{lt_z_no}
 use Rattle.std.proofs.lemmas.Bool.{lt-ltb, le-leb}
 use Rattle.std.proofs.lemmas.Int.{ints}
-use Rattle.std.proofs.lemmas.List.{append-nil}
 use Rattle.tick_num.specs.declared.differences.Diff.{Diff}
 use Rattle.tick_num.specs.Differences.{named, sum_ℤ, Closes, IsCycle, NegativeCycle}
 use Rattle.sched_model.specs.declared.trees.TreeNode.{TreeNode}
-use Rattle.sched_model.specs.PlainMode.{PlainMode, instances}
+use Rattle.sched_model.specs.PlainMode.{PlainMode}
 use Rattle.sched_model.specs.ConstraintProblem.{in_force, alternatives, decisions, load}
-use Rattle.sched_model.specs.RefutationTree.{Node, branch, short, full, cycle, node_of, EachOf as EachTree, ValidFrom, IsTree, ValidTree}
-use Rattle.proof_tree.specs.declared.tree.Tree.{Tree}
-use Rattle.proof_tree.specs.Items.{Item, Branch, Short, Full, Cycle}
-use Rattle.proof_tree.specs.PlanText.{node_item, stored_item, tree_items}
-use Rattle.proof_tree.specs.TreeLines.{Items, closes, is_cycle, is_negative, leaf_holds, EachOf, ValidLines, TreeStands}
+use Rattle.sched_model.specs.RefutationTree.{Node, branch, short, full, cycle, node_of, EachOf as EachTree, ValidFrom}
+use Rattle.proof_tree.specs.PlanText.{node_item, stored_item}
+use Rattle.proof_tree.specs.TreeLines.{Items, closes, is_cycle, is_negative, EachOf, ValidLines, TreeStands}
 use Rattle.proof_tree.specs.DocumentLaws.{TreesStand}
 
 both_true : (a b : Bool) → a ≡ true → b ≡ true → (a && b) ≡ true
@@ -45,8 +42,8 @@ below_zero z h = test (int_lt z (pos 0)) refl
 negative_test : (ds : List Diff) (refs : List ℕ) → NegativeCycle ds refs → is_negative ds refs ≡ true
 negative_test ds refs c =
     both_true (list_all (λ i. ltb i (length ds)) refs && is_cycle (named ds refs)) (int_lt (sum_ℤ (map (λ d. d.c) (named ds refs))) (pos 0))
-      (both_true (list_all (λ i. ltb i (length ds)) refs) (is_cycle (named ds refs)) (below_test (length ds) refs c.within) (cycle_test (named ds refs) c.closed))
-      (below_zero (sum_ℤ (map (λ d. d.c) (named ds refs))) c.negative)
+    (both_true (list_all (λ i. ltb i (length ds)) refs) (is_cycle (named ds refs)) (below_test (length ds) refs c.within) (cycle_test (named ds refs) c.closed))
+    (below_zero (sum_ℤ (map (λ d. d.c) (named ds refs))) c.negative)
 
 -- the lines of nodes
 abbrev lines : List Node → Items
@@ -63,9 +60,10 @@ stands m r zero p (branch ∷ nodes) rest ls t = absurd t
 stands m r (suc n) p (branch ∷ nodes) rest ls t =
     each_stands (λ a. ValidLines m r n (p ++ a ∷ [])) (λ a. ValidFrom m r n (p ++ a ∷ [])) ls (λ a ns mid v. stands m r n (p ++ a ∷ []) ns mid ls v) (alternatives m r p) nodes rest t
 stands m r n p (short ∷ nodes) rest ls t = (lt-ltb _ _ t.0, ap (λ (ns : List Node). lines ns ++ ls) t.1)
-stands m r n p (full j ∷ nodes) rest ls t =
-    (both_true (leb 1 j && leb j r) (ltb m.slots (load m r (j - 1) p)) (both_true (leb 1 j) (leb j r) (le-leb _ _ t.0) (le-leb _ _ t.1)) (lt-ltb _ _ t.2),
-      ap (λ (ns : List Node). lines ns ++ ls) t.3)
+stands m r n p (full j ∷ nodes) rest ls t = (
+  both_true (leb 1 j && leb j r) (ltb m.slots (load m r (j - 1) p)) (both_true (leb 1 j) (leb j r) (le-leb _ _ t.0) (le-leb _ _ t.1)) (lt-ltb _ _ t.2),
+  ap (λ (ns : List Node). lines ns ++ ls) t.3,
+)
 stands m r n p (cycle refs ∷ nodes) rest ls t = (negative_test (in_force m r p) refs t.0, ap (λ (ns : List Node). lines ns ++ ls) t.1)
 
 stored_lines : (refs : List ℕ) (nodes : List TreeNode) → lines (map (node_of refs) nodes) ≡ map (λ item. Some item) (map (stored_item refs) nodes)
@@ -75,4 +73,4 @@ stored_lines refs (n ∷ ns) = ap (λ (l : Items). Some (stored_item refs n) ∷
 pub trees_stand : TreesStand
 trees_stand m r tree rest t =
     subst (λ (l : Items). TreeStands m r (l ++ rest) rest) (stored_lines tree.refs tree.nodes)
-      (stands m r (length (decisions m)) [] (map (node_of tree.refs) tree.nodes) [] rest t.tree)
+    (stands m r (length (decisions m)) [] (map (node_of tree.refs) tree.nodes) [] rest t.tree)

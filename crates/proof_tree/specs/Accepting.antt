@@ -1,5 +1,5 @@
 -- Which plan documents are accepted, in whole trees and whole schedules.
-use Rattle.std.specs.Prelude.{◌≡◌, ℕ, ◌+◌, ◌≤◌, ⊤, Bool, true, nat_le, ℤ, pos, List, [], ◌∷◌, length, map, ◌==◌, unwrap_or, position, Option, Some, None, if◌then◌else◌}
+use Rattle.std.specs.Prelude.{◌≡◌, ℕ, ◌+◌, ⊤, Bool, true, nat_le, pos, List, [], ◌∷◌, length, map, ◌==◌, unwrap_or, position, Option, Some, None, if◌then◌else◌}
 use Rattle.std.specs.List.{slice_split, list_all, list_any, AllZip}
 use Rattle.std.specs.Str.{bytes_eq}
 use Rattle.app_graph.specs.declared.mode_set.ModeSet.{ModeSet}

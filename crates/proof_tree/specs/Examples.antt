@@ -1,18 +1,17 @@
 -- What the definitions say of small documents.
-use Rattle.std.specs.Prelude.{◌≡◌, ℕ, codes, List, [], ◌∷◌, Option, Some, None, Result, Ok, Err, ℤ, pos, ◌++◌}
+use Rattle.std.specs.Prelude.{◌≡◌, ℕ, codes, List, [], ◌∷◌, Some, None, Result, Ok, Err, pos, ◌++◌}
 use Rattle.app_graph.specs.declared.mode_set.ModeSet.{ModeSet}
-use Rattle.sched_model.specs.declared.trees.TreeNode.{TreeNode}
 use Rattle.sched_model.specs.declared.trees.TreeNode.TheVariants as nodes
 use Rattle.sched_model.specs.PlainMode.{PlainMode}
 use Rattle.sched_model.specs.declared.schedule.Schedule.{Schedule}
-use Rattle.proof_tree.specs.Items.{Item, Head, ModeNamed, Refute, Branch, Full, Cycle, ScheduleOf, Start, TaskAt, MessageAt, TableOf, End}
+use Rattle.proof_tree.specs.Items.{Head, ModeNamed, Refute, Branch, Full, Cycle, ScheduleOf, Start, TaskAt, MessageAt, TableOf, End}
 use Rattle.proof_tree.specs.Grammar.{item_of}
 use Rattle.proof_tree.specs.TreeLines.{Items}
 use Rattle.proof_tree.specs.declared.tree.Tree.{Tree}
 use Rattle.proof_tree.specs.declared.tree.ModePart.{ModePart}
 use Rattle.proof_tree.specs.PlanText.{plan_text}
 use Rattle.proof_tree.specs.Accepting.{DocMode, doc_modes, items_of}
-use Rattle.proof_tree.specs.Reading.{Reading, Place, Refusal, Grammar, Names, BadLeaf, Extra, MissingCount, Unfinished, read_document}
+use Rattle.proof_tree.specs.Reading.{Place, Refusal, Grammar, Names, BadLeaf, Extra, MissingCount, Unfinished, read_document}
 
 -- the plan of a loop of three tasks
 abbrev pub loop_plan : List ℕ
