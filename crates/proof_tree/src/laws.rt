@@ -18,7 +18,8 @@ pub fn one_answers()
     ensures { OneAnswers }
 {}
 
-/// Of an accepted document each schedule has the fewest rounds, and a mode without one has no right schedule.
+/// Of an accepted document each schedule has the fewest rounds, and a mode without one has no right
+/// schedule.
 pub fn accepted_are_best()
     ensures { AcceptedAreBest }
 {}

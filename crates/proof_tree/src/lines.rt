@@ -14,7 +14,8 @@ use ttw_text::{Parts, is_name, read_u64, words};
 /// The greatest number of a plan document.
 const GREATEST: u64 = 2_000_000_000_000;
 
-/// What a line says. Parts give the numbers or names of the line, whose spelling was tested; they borrow the line.
+/// What a line says. Parts give the numbers or names of the line, whose spelling was tested; they
+/// borrow the line.
 #[derive(Drop)]
 pub enum PlanLine<'a> {
     /// `ttw 1`: the first line.
@@ -324,7 +325,8 @@ fn form_of<'a>(word: &[u8], parts: Parts<'a>) -> Option<PlanLine<'a>>
     None
 }
 
-/// What a line says, without its line feed. An `Err` comes exactly where it has none of the forms. Takes no memory.
+/// What a line says, without its line feed. An `Err` comes exactly where it has none of the forms.
+/// Takes no memory.
 pub fn item(line: &[u8]) -> Result<PlanLine<'_>, BadLine>
     ensures { option_map meaning (result_ok result) ≡ item_of line.now }
 {
