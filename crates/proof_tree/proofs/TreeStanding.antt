@@ -1,8 +1,9 @@
 -- The lines of a valid tree stand for it.
-use Rattle.std.proofs.Common.{◌≡◌, ℕ, zero, suc, ◌-◌, ◌<◌, Bool, true, false, ◌&&◌, eqb, ltb, leb, List, [], ◌∷◌, ◌++◌, length, map, refl, ap, subst, arith, ℤ, pos, ◌<ℤ◌, Some, eq-eqb}
+use Rattle.std.proofs.Common.{◌+◌, ◌≡◌, ℕ, zero, suc, ◌-◌, ◌<◌, Bool, true, false, ◌&&◌, eqb, ltb, leb, List, [], ◌∷◌, ◌++◌, length, map, refl, ap, subst, arith, ℤ, pos, ◌<ℤ◌, Some, eq-eqb, append_assoc, ◌∙◌}
 use Rattle.std.specs.Prelude.{int_lt, All}
-use Rattle.std.specs.List.{list_all}
+use Rattle.std.specs.List.{list_all, flat_map, enumerate_from}
 use Rattle.std.specs.Int.Signed.{lt_z_no}
+use Rattle.std.proofs.lemmas.List.{map-append}
 use Rattle.std.proofs.lemmas.Bool.{lt-ltb, le-leb}
 use Rattle.std.proofs.lemmas.Int.{ints}
 use Rattle.tick_num.specs.declared.differences.Diff.{Diff}
@@ -11,9 +12,11 @@ use Rattle.sched_model.specs.declared.trees.TreeNode.{TreeNode}
 use Rattle.sched_model.specs.PlainMode.{PlainMode}
 use Rattle.sched_model.specs.ConstraintProblem.{in_force, alternatives, decisions, load}
 use Rattle.sched_model.specs.RefutationTree.{Node, branch, short, full, cycle, node_of, EachOf as EachTree, ValidFrom}
-use Rattle.proof_tree.specs.PlanText.{node_item, stored_item}
-use Rattle.proof_tree.specs.TreeLines.{Items, closes, is_cycle, is_negative, EachOf, ValidLines, TreeStands}
-use Rattle.proof_tree.specs.DocumentLaws.{TreesStand}
+use Rattle.proof_tree.specs.declared.tree.Tree.{Tree}
+use Rattle.proof_tree.specs.Items.{Item, Refute}
+use Rattle.proof_tree.specs.PlanText.{node_item, stored_item, tree_items, refuted_items}
+use Rattle.proof_tree.specs.TreeLines.{Items, TreesFrom, closes, is_cycle, is_negative, EachOf, ValidLines, TreeStands}
+use Rattle.proof_tree.specs.DocumentLaws.{TreesStand, ListsStand, ValidTreesFrom}
 
 both_true : (a b : Bool) → a ≡ true → b ≡ true → (a && b) ≡ true
 both_true a b e f = rw (e, f) refl
@@ -74,3 +77,13 @@ pub trees_stand : TreesStand
 trees_stand m r tree rest t =
     subst (λ (l : Items). TreeStands m r (l ++ rest) rest) (stored_lines tree.refs tree.nodes)
     (stands m r (length (decisions m)) [] (map (node_of tree.refs) tree.nodes) [] rest t.tree)
+
+pub lists_stand : ListsStand
+lists_stand m r [] rest v = refl
+lists_stand m r (tree ∷ trees) rest v =
+    let others : List Item = flat_map refuted_items (enumerate_from (r + 1) trees) in
+    let behind : Items = map (λ item. Some item) others ++ rest in
+    let same : map (λ item. Some item) (tree_items tree ++ others) ++ rest ≡ map (λ item. Some item) (tree_items tree) ++ behind =
+    ap (λ (l : Items). l ++ rest) (map-append (λ item. Some item) (tree_items tree) others)
+    ∙ append_assoc (map (λ item. Some item) (tree_items tree)) (map (λ item. Some item) others) rest in
+    (map (λ item. Some item) (tree_items tree) ++ behind, behind, ap (λ (l : Items). Some (Refute r) ∷ l) same, trees_stand m r tree behind v.0, lists_stand m (r + 1) trees rest v.1)

@@ -1,6 +1,6 @@
 //! Laws of plan documents.
 
-ghost use Rattle.proof_tree.specs.DocumentLaws.{AcceptedAreBest, AnswersAreOne, OneAnswers, TextsAreRead, TreesStand};
+ghost use Rattle.proof_tree.specs.DocumentLaws.{AcceptedAreBest, AnswersAreOne, ListsStand, OneAnswers, TextsAreRead, TreesStand};
 ghost use Rattle.proof_tree.specs.Spelled.{LinesAreExact};
 
 /// A line is read as a meaning exactly where it is the one spelling of that meaning.
@@ -32,4 +32,9 @@ pub fn texts_are_read()
 /// The lines of a valid tree stand for it.
 pub fn trees_stand()
     ensures { TreesStand }
+{}
+
+/// The lines of valid trees, each behind the line with its number of rounds, stand for them.
+pub fn lists_stand()
+    ensures { ListsStand }
 {}
