@@ -6,7 +6,7 @@ use Rattle.std.proofs.lemmas.Nat.{be_bytes_2, be_bytes_8, from_be_bytes-to_be_by
 use Rattle.std.specs.Int.{w16, w64, from_be_bytes, to_be_bytes, cast_signed, cast_unsigned}
 use Rattle.std.specs.List.{flat_map, AllByRecursion}
 use Rattle.std.proofs.lemmas.Int.{ints, of_z-to_z}
-use Rattle.node_tables.specs.Fields.{Field, Byte, Short, Long, bytes_of, bytes, IsInRange, AreInRange}
+use Rattle.node_tables.specs.Fields.{Field, Byte, Short, Long, short_bytes, long_bytes, bytes_of, bytes, IsInRange, AreInRange}
 use Rattle.node_tables.specs.Left.{Left}
 use Rattle.node_tables.specs.Reading.{Reads, field, byte, short, long, give, go_on, after, counted}
 use Rattle.node_tables.specs.declared.fault.ImageFault.{ImageFault}
@@ -70,10 +70,12 @@ pub byte_back : (low high n : ℕ) → IsInRange (Byte low high n) → Back (byt
 byte_back low high n range = field_back 1 first_of_bytes (within low high) n (n ∷ []) refl refl (within_from low high n range)
 
 pub short_back : (low high n : ℕ) → high < 2 ^ 16 → IsInRange (Short low high n) → Back (short low high) n (bytes_of (Short low high n))
+unfolding short_bytes
 short_back low high n small range =
     field_back 2 (from_be_bytes w16) (within low high) n (to_be_bytes w16 n) refl (from_be_bytes-to_be_bytes_2 n (omega arith)) (within_from low high n range)
 
 pub long_back : (low high z : ℤ) → FitsSigned w64 z → IsInRange (Long low high z) → Back (long low high) z (bytes_of (Long low high z))
+unfolding long_bytes
 long_back low high z fits range =
     field_back 8 signed_of_bytes (within_signed low high) z (to_be_bytes w64 (cast_unsigned w64 z)) refl
     (ap (cast_signed w64) (from_be_bytes-to_be_bytes_8 (cast_unsigned w64 z) (of_z-lt z fits)) ∙ to_z-of_z fits)
@@ -223,6 +225,7 @@ byte_takes low high = record {
 }
 
 pub short_takes : (low high : ℕ) → Takes (short low high) (λ n. Short low high n ∷ [])
+unfolding short_bytes
 short_takes low high = record {
   took = λ s n t are e.
     let r = field_read 2 (from_be_bytes w16) (within low high) s n t e in
@@ -234,6 +237,7 @@ from_be_bytes-lt : (bs : List ℕ) → AreBytes bs → from_be_bytes w64 bs < 2 
 from_be_bytes-lt bs are = omega (arith, are 0, are 1, are 2, are 3, are 4, are 5, are 6, are 7)
 
 pub long_takes : (low high : ℤ) → Takes (long low high) (λ z. Long low high z ∷ [])
+unfolding long_bytes
 long_takes low high = record {
   took = λ s z t are e.
     let r = field_read 8 signed_of_bytes (within_signed low high) s z t e in
@@ -243,3 +247,23 @@ long_takes low high = record {
     let parts = and_parts _ _ r.good in
     took_field 8 (Long low high z) s t are same r.rest (le_from_test low z parts.0, le_from_test z high parts.1);
 }
+
+-- ---- what is written
+
+pub ranges_at : {X : Type 0} (fields : X → List Field) (xs : List X) (i : ℕ) (d : X) → i < length xs → AreInRange (flat_map fields xs) → AreInRange (fields (get_or xs i d))
+ranges_at fields [] i d lt ranges = absurd (omega arith)
+ranges_at fields (x ∷ xs) zero d lt ranges = ranges_front (fields x) (flat_map fields xs) ranges
+ranges_at fields (x ∷ xs) (suc i) d lt ranges = ranges_at fields xs i d (omega arith) (ranges_rest (fields x) (flat_map fields xs) ranges)
+
+pub bytes-take_more : {X : Type 0} (fields : X → List Field) (xs : List X) (i : ℕ) (x : X) → i < length xs → x ≡ get_or xs i x →
+  bytes (flat_map fields (take (i + 1) xs)) ≡ bytes (flat_map fields (take i xs)) ++ bytes (fields x)
+bytes-take_more fields [] i x lt is = absurd (omega arith)
+bytes-take_more {X} fields (y ∷ ys) zero x lt is =
+    ap (λ (fs : List Field). bytes fs) (append-nil (fields y)) ∙ ap (λ (z : X). bytes (fields z)) (sym is)
+bytes-take_more {X} fields (y ∷ ys) (suc i) x lt is =
+    let e : suc i + 1 ≡ suc (i + 1) = omega arith in
+    ap (λ (n : ℕ). bytes (flat_map fields (take n (y ∷ ys)))) e
+    ∙ bytes-append (fields y) (flat_map fields (take (i + 1) ys))
+    ∙ ap (λ (bs : List ℕ). bytes (fields y) ++ bs) (bytes-take_more fields ys i x (omega arith) is)
+    ∙ sym (append_assoc (bytes (fields y)) (bytes (flat_map fields (take i ys))) (bytes (fields x)))
+    ∙ ap (λ (bs : List ℕ). bs ++ bytes (fields x)) (sym (bytes-append (fields y) (flat_map fields (take i ys))))

@@ -61,7 +61,15 @@ table_fields t =
     ∷ Byte 1 8 (length t.modes)
     ∷ flat_map mode_fields t.modes
 
+-- the bytes of the fields
+abbrev pub image_of : NodeTable → List ℕ
+image_of t = bytes (table_fields t)
+
+-- every field and every count of the table is in its range
+abbrev pub IsInRange : NodeTable → Type 0
+IsInRange t = AreInRange (table_fields t)
+
 -- the bytes are the fields of the table, each in its range
 pub record Image (t : NodeTable) (image : List ℕ) : Type 0 where
-  pub ranges : AreInRange (table_fields t)
-  pub fields : image ≡ bytes (table_fields t)
+  pub ranges : IsInRange t
+  pub fields : image ≡ image_of t

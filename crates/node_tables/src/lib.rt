@@ -8,8 +8,12 @@ mod image;
 
 mod reader;
 mod tables;
+mod writer;
+
+#[cfg(test)]
+mod tests;
 
 pub use fault::ImageFault;
-pub use image::read_image;
+pub use image::{read_image, write_image};
 
 pub use tables::{ModeTable, NodeTable, OwnMessage, OwnRound, OwnSlot, OwnTask};
