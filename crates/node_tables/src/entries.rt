@@ -7,14 +7,13 @@ ghost use Rattle.node_tables.specs.Image as images;
 ghost use Rattle.node_tables.specs.Reading as reads;
 ghost use Rattle.node_tables.specs.declared.fault.ImageFault.TheVariants.{Memory};
 
+use crate::fault::ImageFault;
+use crate::reader::Reader;
+use crate::tables::{ModeTable, NodeTable, OwnMessage, OwnRound, OwnSlot, OwnTask};
+use crate::writer::{put_byte, put_long, put_short};
 use app_graph::ListOf;
 use std::alloc::{AllocError, Global};
 use ttw_text::Out;
-
-use crate::fault::ImageFault;
-use crate::reader::Reader;
-use crate::writer::{put_byte, put_long, put_short};
-use crate::tables::{ModeTable, NodeTable, OwnMessage, OwnRound, OwnSlot, OwnTask};
 
 /// The version of the images that are written.
 const VERSION: u8 = 1;

@@ -6,13 +6,12 @@ ghost use Rattle.node_tables.specs.Reading as reads;
 ghost use Rattle.node_tables.specs.declared.fault.ImageFault.TheVariants.{Memory};
 ghost use Rattle.node_tables.specs.declared.tables.NodeTable.{NodeTable};
 
-use std::alloc::{AllocError, Global};
-use ttw_text::Out;
-
 use crate::entries::Entry;
 use crate::fault::ImageFault;
 use crate::reader::Reader;
 use crate::tables::NodeTable;
+use std::alloc::{AllocError, Global};
+use ttw_text::Out;
 
 /// Adds the image of a table. After an `Err` the text is unchanged.
 pub fn write_image(alloc: Global, table: &NodeTable, out: &mut Out) -> Result<(), AllocError>

@@ -12,7 +12,7 @@ use Rattle.node_tables.proofs.entries.ModeTableEntry.write.Goals as goal
 
 -- the ranges of what stands behind the tasks
 behind_tasks : (m : ModeTable) → AreInRange (images.mode_fields m) →
-  AreInRange (Short 0 64 (length m.messages) ∷ (flat_map images.message_fields m.messages ++ flat_map images.round_fields m.rounds))
+    AreInRange (Short 0 64 (length m.messages) ∷ (flat_map images.message_fields m.messages ++ flat_map images.round_fields m.rounds))
 behind_tasks m ranges =
     ranges_rest (flat_map images.task_fields m.tasks) (Short 0 64 (length m.messages) ∷ (flat_map images.message_fields m.messages ++ flat_map images.round_fields m.rounds)) ranges.1.1.1.1
 
