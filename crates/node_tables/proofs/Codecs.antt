@@ -1,14 +1,14 @@
 -- Readers that give back what was written, and take nothing else.
-use Rattle.std.proofs.Common.{◌≡◌, ℕ, zero, suc, ◌+◌, ◌<◌, ◌≤◌, ◌^◌, Bool, true, false, ltb, leb, cond, ◌&&◌, ℤ, int_le, ◌≤ℤ◌, List, [], ◌∷◌, ◌++◌, length, take, drop, get_or, slice_index, Result, Ok, Err, refl, sym, ap, subst, ◌∙◌, inl, inr, arith, append_assoc, append-nil, FitsSigned, to_z-of_z, length-append, length-drop, take-append-drop}
-use Rattle.std.proofs.lemmas.Bool.{cond-true, cond-false, le-ltb, lt-ltb, ltb-false, ltb-true, le-leb, leb-true, and_from, and_parts, cases_Bool, cases_lt}
+use Rattle.std.proofs.Common.{◌≡◌, ℕ, zero, suc, ◌+◌, ◌<◌, ◌≤◌, ◌^◌, Bool, true, ltb, leb, ◌&&◌, ℤ, int_le, ◌≤ℤ◌, List, [], ◌∷◌, ◌++◌, length, take, drop, get_or, slice_index, Result, Ok, Err, refl, sym, ap, subst, ◌∙◌, inl, inr, arith, append_assoc, append-nil, FitsSigned, to_z-of_z, length-append, take-append-drop}
+use Rattle.std.proofs.lemmas.Bool.{cond-true, cond-false, le-ltb, ltb-false, le-leb, leb-true, and_from, and_parts, cases_Bool, cases_lt}
 use Rattle.std.proofs.lemmas.List.{take_at, drop_at, get_or-drop, length-take-le, length-take, get_or-take, get_or_past}
 use Rattle.std.proofs.lemmas.Nat.{be_bytes_2, be_bytes_8, from_be_bytes-to_be_bytes_2, from_be_bytes-to_be_bytes_8}
 use Rattle.std.specs.Int.{w16, w64, from_be_bytes, to_be_bytes, cast_signed, cast_unsigned}
-use Rattle.std.specs.List.{flat_map, AllByRecursion}
+use Rattle.std.specs.List.{flat_map}
 use Rattle.std.proofs.lemmas.Int.{ints, of_z-to_z}
 use Rattle.node_tables.specs.Fields.{Field, Byte, Short, Long, short_bytes, long_bytes, bytes_of, bytes, IsInRange, AreInRange}
 use Rattle.node_tables.specs.Left.{Left}
-use Rattle.node_tables.specs.Reading.{Reads, field, byte, short, long, give, go_on, after, counted}
+use Rattle.node_tables.specs.Reading.{Reads, field, byte, short, long, give, go_on, after}
 use Rattle.node_tables.specs.declared.fault.ImageFault.{ImageFault}
 use Rattle.node_tables.specs.declared.fault.ImageFault.TheVariants as faults
 

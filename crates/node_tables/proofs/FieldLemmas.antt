@@ -1,11 +1,9 @@
 -- What the reading of a field gives.
-use Rattle.std.proofs.Common.{◌≡◌, ℕ, ◌+◌, ◌<◌, ◌≤◌, Bool, true, false, ltb, ◌&&◌, ℤ, int_le, List, length, take, drop, Result, Ok, Err, refl, sym, ap, ◌∙◌, arith}
-use Rattle.std.proofs.lemmas.Bool.{cond-true, cond-false, le-ltb, lt-ltb}
+use Rattle.std.proofs.Common.{◌≡◌, ℕ, ◌+◌, ◌≤◌, Bool, true, false, List, length, take, drop, Ok, Err, sym, ap, ◌∙◌}
+use Rattle.std.proofs.lemmas.Bool.{cond-true, cond-false, le-ltb}
 use Rattle.std.proofs.lemmas.List.{drop-drop}
-use Rattle.std.specs.Int.{w64, from_be_bytes, cast_signed}
 use Rattle.node_tables.specs.Left.{Left}
-use Rattle.node_tables.specs.Reading.{Reads, field, long}
-use Rattle.node_tables.specs.declared.fault.ImageFault.{ImageFault}
+use Rattle.node_tables.specs.Reading.{field}
 use Rattle.node_tables.specs.declared.fault.ImageFault.TheVariants.{Range}
 
 -- what is left from a place on

@@ -1,12 +1,12 @@
 -- Each part of an image is read back as it was written, and nothing else is taken for it.
-use Rattle.std.proofs.Common.{◌≡◌, ℕ, zero, suc, ◌+◌, ◌<◌, ◌≤◌, ◌^◌, ℤ, pos, negsuc, ◌≤ℤ◌, ◌≢◌, ◌⊎◌, IfOk, IfErr, List, [], ◌∷◌, ◌++◌, length, Result, Ok, Err, refl, sym, ap, subst, ◌∙◌, inl, inr, eqb, arith, append_assoc, append-nil, FitsSigned, w64}
+use Rattle.std.proofs.Common.{◌≡◌, ℕ, zero, suc, ℤ, pos, negsuc, ◌≤ℤ◌, ◌≢◌, ◌⊎◌, IfOk, IfErr, List, [], ◌∷◌, ◌++◌, length, Result, Ok, Err, refl, sym, ap, subst, ◌∙◌, inl, inr, eqb, arith, append_assoc, append-nil, FitsSigned, w64}
 use Rattle.std.proofs.lemmas.Bool.{cases_Bool, cond-true, cond-false, eqb-true}
 use Rattle.std.proofs.lemmas.Int.{ints}
 use Rattle.std.specs.List.{flat_map}
-use Rattle.node_tables.specs.Fields.{Field, Byte, Short, Long, bytes_of, bytes, IsInRange, AreInRange}
+use Rattle.node_tables.specs.Fields.{Field, Byte, Short, Long, bytes_of, bytes, AreInRange}
 use Rattle.node_tables.specs.Image.{slot_fields, round_fields, task_field, message_fields, task_fields, mode_fields, table_fields, Image}
 use Rattle.node_tables.specs.Left.{Left}
-use Rattle.node_tables.specs.Reading.{Reads, byte, short, long, give, go_on, after, counted, slot, round, task_number, message, task, mode, table, whole, read}
+use Rattle.node_tables.specs.Reading.{Reads, byte, short, long, give, after, counted, slot, round, task_number, message, task, mode, table, whole, read}
 use Rattle.node_tables.specs.declared.fault.ImageFault.{ImageFault}
 use Rattle.node_tables.specs.declared.fault.ImageFault.TheVariants as faults
 use Rattle.node_tables.specs.declared.tables.NodeTable.{NodeTable}

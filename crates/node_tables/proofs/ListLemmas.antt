@@ -1,5 +1,5 @@
 -- A list read item by item.
-use Rattle.std.proofs.Common.{◌≡◌, ℕ, zero, suc, ◌+◌, ◌-◌, ◌≤◌, ◌<◌, List, [], ◌∷◌, ◌++◌, Result, Ok, Err, refl, sym, ap, ◌∙◌, arith, append_assoc, append-nil}
+use Rattle.std.proofs.Common.{◌≡◌, ℕ, zero, suc, ◌+◌, ◌<◌, List, [], ◌∷◌, ◌++◌, Result, Ok, Err, refl, sym, ap, ◌∙◌, arith, append_assoc, append-nil}
 use Rattle.node_tables.specs.Left.{Left}
 use Rattle.node_tables.specs.Reading.{Reads, after, go_on, give, counted}
 use Rattle.node_tables.specs.declared.fault.ImageFault.{ImageFault}

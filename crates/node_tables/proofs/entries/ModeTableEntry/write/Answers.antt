@@ -1,4 +1,4 @@
-use Rattle.std.proofs.Common.{◌≡◌, ◌∷◌, ◌++◌, List, ℕ, length, ap, sym, subst, arith, rules, Fits}
+use Rattle.std.proofs.Common.{◌∷◌, ◌++◌, List, length, ap, sym, subst, arith, rules}
 use Rattle.std.proofs.lemmas.List.{append_assoc}
 use Rattle.std.proofs.lemmas.Result.{IfOk-equal}
 use Rattle.std.specs.List.{flat_map}

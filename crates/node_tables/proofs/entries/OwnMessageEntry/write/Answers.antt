@@ -1,4 +1,4 @@
-use Rattle.std.proofs.Common.{◌∷◌, ◌++◌, List, ℕ, length, ap, sym, subst, arith, Fits}
+use Rattle.std.proofs.Common.{◌∷◌, List, ℕ, length, ap, sym, subst, arith}
 use Rattle.std.specs.List.{flat_map}
 use Rattle.node_tables.specs.Fields.{Byte, AreInRange}
 use Rattle.node_tables.specs.Image as images
