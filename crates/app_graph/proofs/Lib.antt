@@ -4,5 +4,6 @@ pub mod Pigeons
 pub mod Marks
 pub mod Levels
 pub mod Multiples
+pub mod Numbered
 pub mod Pairs
 pub mod Walks

@@ -11,6 +11,7 @@ multiple_from (suc n) k a b = if nat_eq (k % b) 0 then k else multiple_from n (k
 abbrev pub lcm : ℕ → ℕ → ℕ
 lcm a b = multiple_from b a a b
 
+-- the least common multiple of all periods
 unfoldable pub hyperperiod : List ℕ → ℕ
 hyperperiod periods = fold lcm 1 periods
 

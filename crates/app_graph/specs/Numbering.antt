@@ -57,9 +57,11 @@ abbrev pub apps_from : List (List ℕ) → ℕ → ℕ → List RawApp → List 
 apps_from nodes t m [] = []
 apps_from nodes t m (a ∷ rest) = app_of nodes t m a ∷ apps_from nodes (t + length a.tasks) (m + length a.messages) rest
 
+-- how many tasks a mode has
 abbrev pub task_count : RawMode → ℕ
 task_count mode = sum_by (λ a. length a.tasks) mode.apps
 
+-- how many messages a mode has
 abbrev pub message_count : RawMode → ℕ
 message_count mode = sum_by (λ a. length a.messages) mode.apps
 

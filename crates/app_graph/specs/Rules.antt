@@ -9,6 +9,7 @@ Rule Fault = Option Fault
 abbrev pub unless : {Fault : Type 0} → Bool → Fault → Rule Fault
 unless test fault = if test then None else Some fault
 
+-- the fault of the first rule that is broken
 abbrev pub first_of : {Fault : Type 0} → List (Rule Fault) → Rule Fault
 first_of [] = None
 first_of (None ∷ rules) = first_of rules

@@ -15,15 +15,19 @@ use Rattle.app_graph.specs.Rules.{Rule, unless, first_of, each, each_after}
 use Rattle.app_graph.specs.Spelling.{is_name}
 use Rattle.app_graph.specs.Hyperperiod.{hyperperiod}
 
+-- the number is from low to high
 abbrev pub within : ℤ → ℤ → ℤ → Bool
 within low high z = int_le low z && int_le z high
 
+-- the list has an element
 abbrev pub has_some : {A : Type 0} → List A → Bool
 has_some xs = nat_lt 0 (length xs)
 
+-- it has n elements at most
 abbrev pub at_most : {A : Type 0} → ℕ → List A → Bool
 at_most n xs = nat_le (length xs) n
 
+-- the name is one of the names
 abbrev pub among : List ℕ → List (List ℕ) → Bool
 among name names = list_any (bytes_eq name) names
 
@@ -102,6 +106,7 @@ abbrev pub goes_in : ℕ → RawApp → RawTask → RawTask → Bool
 goes_in zero app t u = false
 goes_in (suc n) app t u = goes app t u || list_any (λ v. goes app t v && goes_in n app v u) app.tasks
 
+-- some task is reached from itself; the shortest way round has at most one edge for each task
 abbrev pub has_cycle : RawApp → Bool
 has_cycle app = list_any (λ t. goes_in (length app.tasks) app t t) app.tasks
 

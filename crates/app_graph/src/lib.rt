@@ -27,6 +27,6 @@ pub use keys::Key;
 pub use lists::ListOf;
 pub use mode_set::{App, Message, Mode, ModeSet, Task};
 pub use names::Name;
-pub use queries::{is_first, is_last};
+pub use queries::{greatest_offset, is_first, is_last};
 pub use raw::{RawApp, RawMessage, RawMode, RawSet, RawTask};
 pub use validation::validate;

@@ -1,8 +1,8 @@
 //! Mode files that break a rule, and both sides of each limit.
 
 use crate::{
-    GraphFault, ListOf, ModeSet, Name, RawApp, RawMessage, RawMode, RawSet, RawTask, is_first,
-    is_last, validate,
+    GraphFault, ListOf, ModeSet, Name, RawApp, RawMessage, RawMode, RawSet, RawTask,
+    greatest_offset, is_first, is_last, validate,
 };
 use std::alloc::{AllocError, Global};
 use std::test::Fail;
@@ -145,336 +145,450 @@ fn base<'a>() -> Sample<'a> {
 #[test]
 fn rounds_and_nodes(rt: HostRuntime) -> Result<(), Fail> {
     let b = base();
-    let rows = [
-        (b, "ok", ""),
-        (
-            Sample {
+    assert!(rt; gives(rt.alloc(), &b, "ok", "")?);
+    assert!(rt;
+        gives(
+            rt.alloc(),
+            &Sample {
                 slots: 0,
                 round: 0,
                 ..b
             },
             "out of range",
-            "slots",
-        ),
-        (Sample { slots: 32, ..b }, "ok", ""),
-        (Sample { slots: 33, ..b }, "out of range", "slots"),
-        (
-            Sample {
+            "slots"
+        )?
+    );
+    assert!(rt; gives(rt.alloc(), &Sample { slots: 32, ..b }, "ok", "")?);
+    assert!(rt;
+        gives(
+            rt.alloc(),
+            &Sample { slots: 33, ..b },
+            "out of range",
+            "slots"
+        )?
+    );
+    assert!(rt;
+        gives(
+            rt.alloc(),
+            &Sample {
                 round: 0,
                 gap: -1,
                 ..b
             },
             "out of range",
-            "round",
-        ),
-        (
-            Sample {
+            "round"
+        )?
+    );
+    assert!(rt;
+        gives(
+            rt.alloc(),
+            &Sample {
                 round: 1_000_000_001,
                 ..b
             },
             "out of range",
-            "round",
-        ),
-        (
-            Sample {
+            "round"
+        )?
+    );
+    assert!(rt;
+        gives(
+            rt.alloc(),
+            &Sample {
                 gap: 19,
                 nodes: &[],
                 ..b
             },
             "out of range",
-            "gap",
-        ),
-        (Sample { gap: 20, ..b }, "ok", ""),
-        (
-            Sample {
+            "gap"
+        )?
+    );
+    assert!(rt; gives(rt.alloc(), &Sample { gap: 20, ..b }, "ok", "")?);
+    assert!(rt;
+        gives(
+            rt.alloc(),
+            &Sample {
                 gap: 1_000_000_001,
                 ..b
             },
             "out of range",
-            "gap",
-        ),
-        (
-            Sample {
+            "gap"
+        )?
+    );
+    assert!(rt;
+        gives(
+            rt.alloc(),
+            &Sample {
                 nodes: &[],
                 host: "N",
                 ..b
             },
             "out of range",
-            "nodes",
-        ),
-        (
-            Sample {
+            "nodes"
+        )?
+    );
+    assert!(rt;
+        gives(
+            rt.alloc(),
+            &Sample {
                 nodes: &["n0", "N1", "n0"],
                 ..b
             },
             "out of range",
-            "nodes",
-        ),
-        (
-            Sample {
+            "nodes"
+        )?
+    );
+    assert!(rt;
+        gives(
+            rt.alloc(),
+            &Sample {
                 nodes: &["n0", "n1", "n0"],
                 host: "",
                 ..b
             },
             "repeated",
-            "n0",
-        ),
-        (Sample { host: "", ..b }, "out of range", "host"),
-        (
-            Sample {
+            "n0"
+        )?
+    );
+    assert!(rt;
+        gives(
+            rt.alloc(),
+            &Sample { host: "", ..b },
+            "out of range",
+            "host"
+        )?
+    );
+    assert!(rt;
+        gives(
+            rt.alloc(),
+            &Sample {
                 host: "n2",
                 mode: "R",
                 ..b
             },
             "unknown",
-            "n2",
-        ),
-    ];
-    for (sample, kind, word) in &rows {
-        assert!(rt; gives(rt.alloc(), sample, kind, word)?, "{kind} {word}");
-    }
+            "n2"
+        )?
+    );
     Ok(())
 }
 
 #[test]
 fn modes_applications_and_tasks(rt: HostRuntime) -> Result<(), Fail> {
     let b = base();
-    let rows = [
-        (
-            Sample {
+    assert!(rt;
+        gives(
+            rt.alloc(),
+            &Sample {
                 mode: "r-n",
                 app: "",
                 ..b
             },
             "out of range",
-            "name",
-        ),
-        (
-            Sample {
+            "name"
+        )?
+    );
+    assert!(rt;
+        gives(
+            rt.alloc(),
+            &Sample {
                 app: "abcdefghijklmnopqrstuvwxyz012345",
                 ..b
             },
             "ok",
-            "",
-        ),
-        (
-            Sample {
+            ""
+        )?
+    );
+    assert!(rt;
+        gives(
+            rt.alloc(),
+            &Sample {
                 app: "abcdefghijklmnopqrstuvwxyz0123456",
                 ..b
             },
             "out of range",
-            "name",
-        ),
-        (
-            Sample {
+            "name"
+        )?
+    );
+    assert!(rt;
+        gives(
+            rt.alloc(),
+            &Sample {
                 period: 0,
                 deadline: 0,
                 ..b
             },
             "out of range",
-            "period",
-        ),
-        (
-            Sample {
+            "period"
+        )?
+    );
+    assert!(rt;
+        gives(
+            rt.alloc(),
+            &Sample {
                 period: 1_000_000_001,
                 ..b
             },
             "out of range",
-            "period",
-        ),
-        (
-            Sample {
+            "period"
+        )?
+    );
+    assert!(rt;
+        gives(
+            rt.alloc(),
+            &Sample {
                 deadline: 0,
                 tasks: &[],
                 ..b
             },
             "out of range",
-            "deadline",
-        ),
-        (
-            Sample {
+            "deadline"
+        )?
+    );
+    assert!(rt;
+        gives(
+            rt.alloc(),
+            &Sample {
                 deadline: 1_000_000_000_001,
                 ..b
             },
             "out of range",
-            "deadline",
-        ),
-        (Sample { tasks: &[], ..b }, "out of range", "task"),
-        (
-            Sample {
+            "deadline"
+        )?
+    );
+    assert!(rt;
+        gives(
+            rt.alloc(),
+            &Sample { tasks: &[], ..b },
+            "out of range",
+            "task"
+        )?
+    );
+    assert!(rt;
+        gives(
+            rt.alloc(),
+            &Sample {
                 tasks: &[("a", "n0", 1, "x"), ("a", "n9", 1, "x")],
                 ..b
             },
             "repeated",
-            "a",
-        ),
-        (
-            Sample {
+            "a"
+        )?
+    );
+    assert!(rt;
+        gives(
+            rt.alloc(),
+            &Sample {
                 tasks: &[("a", "N", 0, "x")],
                 ..b
             },
             "out of range",
-            "node",
-        ),
-        (
-            Sample {
+            "node"
+        )?
+    );
+    assert!(rt;
+        gives(
+            rt.alloc(),
+            &Sample {
                 tasks: &[("a", "n9", 0, "x")],
                 ..b
             },
             "unknown",
-            "n9",
-        ),
-        (
-            Sample {
+            "n9"
+        )?
+    );
+    assert!(rt;
+        gives(
+            rt.alloc(),
+            &Sample {
                 tasks: &[("a", "n0", 0, "X")],
                 ..b
             },
             "out of range",
-            "wcet",
-        ),
-        (
-            Sample {
+            "wcet"
+        )?
+    );
+    assert!(rt;
+        gives(
+            rt.alloc(),
+            &Sample {
                 tasks: &[("a", "n0", 101, "x")],
                 ..b
             },
             "out of range",
-            "wcet",
-        ),
-        (
-            Sample {
+            "wcet"
+        )?
+    );
+    assert!(rt;
+        gives(
+            rt.alloc(),
+            &Sample {
                 tasks: &[("a", "n0", 100, "")],
                 ..b
             },
             "out of range",
-            "body",
-        ),
-    ];
-    for (sample, kind, word) in &rows {
-        assert!(rt; gives(rt.alloc(), sample, kind, word)?, "{kind} {word}");
-    }
+            "body"
+        )?
+    );
     Ok(())
 }
 
 #[test]
 fn messages_and_graphs(rt: HostRuntime) -> Result<(), Fail> {
     let b = base();
-    let rows = [
-        (
-            Sample {
+    assert!(rt;
+        gives(
+            rt.alloc(),
+            &Sample {
                 message: "M",
                 from: &[],
                 ..b
             },
             "out of range",
-            "name",
-        ),
-        (
-            Sample {
+            "name"
+        )?
+    );
+    assert!(rt;
+        gives(
+            rt.alloc(),
+            &Sample {
                 from: &[],
                 to: &[],
                 ..b
             },
             "out of range",
-            "from",
-        ),
-        (
-            Sample {
+            "from"
+        )?
+    );
+    assert!(rt;
+        gives(
+            rt.alloc(),
+            &Sample {
                 from: &["z", "A"],
                 ..b
             },
             "unknown",
-            "z",
-        ),
-        (
-            Sample {
+            "z"
+        )?
+    );
+    assert!(rt;
+        gives(
+            rt.alloc(),
+            &Sample {
                 from: &["a", "a", "z"],
                 ..b
             },
             "repeated",
-            "a",
-        ),
-        (
-            Sample {
+            "a"
+        )?
+    );
+    assert!(rt;
+        gives(
+            rt.alloc(),
+            &Sample {
                 from: &["a", "b", "c", "a", "z"],
                 ..b
             },
             "too many",
-            "from",
-        ),
-        (
-            Sample {
+            "from"
+        )?
+    );
+    assert!(rt;
+        gives(
+            rt.alloc(),
+            &Sample {
                 from: &["a", "b"],
                 to: &[],
                 ..b
             },
             "out of range",
-            "to",
-        ),
-        (
-            Sample {
+            "to"
+        )?
+    );
+    assert!(rt;
+        gives(
+            rt.alloc(),
+            &Sample {
                 from: &["a", "b"],
                 to: &["a"],
                 ..b
             },
             "two senders",
-            "m",
-        ),
-        (
-            Sample {
+            "m"
+        )?
+    );
+    assert!(rt;
+        gives(
+            rt.alloc(),
+            &Sample {
                 from: &["a", "c"],
                 ..b
             },
             "ok",
-            "",
-        ),
-        (
-            Sample {
+            ""
+        )?
+    );
+    assert!(rt;
+        gives(
+            rt.alloc(),
+            &Sample {
                 from: &["a"],
                 to: &["b", "a"],
                 deadline: 101,
                 ..b
             },
             "cycle",
-            "loop",
-        ),
-        (Sample { deadline: 101, ..b }, "deadline", "loop"),
-        (
-            Sample {
+            "loop"
+        )?
+    );
+    assert!(rt;
+        gives(
+            rt.alloc(),
+            &Sample { deadline: 101, ..b },
+            "deadline",
+            "loop"
+        )?
+    );
+    assert!(rt;
+        gives(
+            rt.alloc(),
+            &Sample {
                 round: 1,
                 gap: 100,
                 period: 256,
                 ..b
             },
             "ok",
-            "",
-        ),
-        (
-            Sample {
+            ""
+        )?
+    );
+    assert!(rt;
+        gives(
+            rt.alloc(),
+            &Sample {
                 round: 1,
                 gap: 100,
                 period: 257,
                 ..b
             },
             "too many",
-            "rounds",
-        ),
-    ];
-    for (sample, kind, word) in &rows {
-        assert!(rt; gives(rt.alloc(), sample, kind, word)?, "{kind} {word}");
-    }
+            "rounds"
+        )?
+    );
     Ok(())
 }
 
 #[test]
-fn first_and_last(rt: HostRuntime) -> Result<(), Fail> {
+fn queries(rt: HostRuntime) -> Result<(), Fail> {
     let raw = build(rt.alloc(), &base())?;
-    let set = validate(rt.alloc(), &raw).map_err(|_| "refused")?;
+    let Ok(set) = validate(rt.alloc(), &raw) else {
+        return Err("refused".into());
+    };
     assert!(rt; is_first(&set, 0));
     assert!(rt; !is_last(&set, 0));
     assert!(rt; !is_first(&set, 1));
     assert!(rt; is_last(&set, 1));
-    assert!(rt; is_first(&set, 2));
-    assert!(rt; is_last(&set, 2));
+    assert_eq!(rt; greatest_offset(&set, 0), 197);
+    assert_eq!(rt; greatest_offset(&set, 1), 194);
     Ok(())
 }
 

@@ -1,6 +1,7 @@
 //! From a mode file as it is written to a mode set.
 
-ghost use Rattle.app_graph.specs.Validation.{Validates};
+ghost use Rattle.std.specs.Prelude.{IfOk};
+ghost use Rattle.app_graph.specs.Validation.{KeepsRules, Validates};
 
 use crate::faults::GraphFault;
 use crate::mode_rules::check_set;
@@ -11,7 +12,8 @@ use std::alloc::Global;
 
 /// The mode set that the file says. Errors: the fault of the first broken rule on values and graphs; want of memory.
 pub fn validate(alloc: Global, raw: &RawSet) -> Result<ModeSet, GraphFault>
-    ensures { Validates raw.now result }
+    ensures exact { Validates raw.now result }
+    ensures keeps { IfOk result KeepsRules }
 {
     check_set(alloc, raw)?;
     Ok(number_set(alloc, raw)?)

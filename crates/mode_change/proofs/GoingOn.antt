@@ -1,7 +1,7 @@
 -- A host goes on standing for its calls
-use Rattle.std.proofs.Common.{◌≡◌, ℕ, ◌<◌, Bool, true, false, List, [], ◌∷◌, length, refl, sym, ◌∙◌, ap, subst}
+use Rattle.std.proofs.Common.{◌≡◌, ℕ, ◌<◌, true, false, List, length, sym, ◌∙◌, ap, subst}
 use Rattle.sched_model.specs.declared.schedule.Schedule.{Schedule}
-use Rattle.runtime_model.specs.HostCalls.{HostCall, request_call, next_beacon_call, end_round_call, MayCall, call_state, after_call, host_after, PlainHost}
+use Rattle.runtime_model.specs.HostCalls.{HostCall, request_call, next_beacon_call, end_round_call, MayCall, call_state, after_call, PlainHost}
 use Rattle.runtime_model.specs.Plans.{round_counts}
 use Rattle.runtime_model.proofs.Hosts.{hosts_keep_time}
 use Rattle.mode_change.specs.HostSeen.{HostSeen, with_call}

@@ -1,14 +1,14 @@
 -- Readers that give back what was written, and take nothing else.
-use Rattle.std.proofs.Common.{◌≡◌, ℕ, zero, suc, ◌+◌, ◌<◌, ◌≤◌, ◌^◌, Bool, true, false, ltb, leb, cond, ◌&&◌, ℤ, int_le, ◌≤ℤ◌, List, [], ◌∷◌, ◌++◌, length, take, drop, get_or, slice_index, Result, Ok, Err, refl, sym, ap, subst, ◌∙◌, inl, inr, arith, append_assoc, append-nil, FitsSigned, to_z-of_z, length-append, length-drop, take-append-drop}
-use Rattle.std.proofs.lemmas.Bool.{cond-true, cond-false, le-ltb, lt-ltb, ltb-false, ltb-true, le-leb, leb-true, and_from, and_parts, cases_Bool, cases_lt}
+use Rattle.std.proofs.Common.{◌≡◌, ℕ, zero, suc, ◌+◌, ◌<◌, ◌≤◌, ◌^◌, Bool, true, ltb, leb, ◌&&◌, ℤ, int_le, ◌≤ℤ◌, List, [], ◌∷◌, ◌++◌, length, take, drop, get_or, slice_index, Result, Ok, Err, refl, sym, ap, subst, ◌∙◌, inl, inr, arith, append_assoc, append-nil, FitsSigned, to_z-of_z, length-append, take-append-drop}
+use Rattle.std.proofs.lemmas.Bool.{cond-true, cond-false, le-ltb, ltb-false, le-leb, leb-true, and_from, and_parts, cases_Bool, cases_lt}
 use Rattle.std.proofs.lemmas.List.{take_at, drop_at, get_or-drop, length-take-le, length-take, get_or-take, get_or_past}
 use Rattle.std.proofs.lemmas.Nat.{be_bytes_2, be_bytes_8, from_be_bytes-to_be_bytes_2, from_be_bytes-to_be_bytes_8}
 use Rattle.std.specs.Int.{w16, w64, from_be_bytes, to_be_bytes, cast_signed, cast_unsigned}
-use Rattle.std.specs.List.{flat_map, AllByRecursion}
+use Rattle.std.specs.List.{flat_map}
 use Rattle.std.proofs.lemmas.Int.{ints, of_z-to_z}
-use Rattle.node_tables.specs.Fields.{Field, Byte, Short, Long, bytes_of, bytes, IsInRange, AreInRange}
+use Rattle.node_tables.specs.Fields.{Field, Byte, Short, Long, short_bytes, long_bytes, bytes_of, bytes, IsInRange, AreInRange}
 use Rattle.node_tables.specs.Left.{Left}
-use Rattle.node_tables.specs.Reading.{Reads, field, byte, short, long, give, go_on, after, counted}
+use Rattle.node_tables.specs.Reading.{Reads, field, byte, short, long, give, go_on, after}
 use Rattle.node_tables.specs.declared.fault.ImageFault.{ImageFault}
 use Rattle.node_tables.specs.declared.fault.ImageFault.TheVariants as faults
 
@@ -27,22 +27,23 @@ back_give x = record { reads = λ at rest. (at, refl) }
 pub back_after : {X Y : Type 0} (first : Reads X) (next : X → Reads Y) (x : X) (y : Y) (bs cs : List ℕ) → Back first x bs → Back (next x) y cs → Back (after first next) y (bs ++ cs)
 back_after {X} {Y} first next x y bs cs one two = record {
   reads = λ at rest.
-    let a = one.reads at (cs ++ rest) in
-    let b = two.reads a.0 rest in
-    (b.0, ap (λ (ds : List ℕ). go_on (first (left at ds)) next) (append_assoc bs cs rest) ∙ ap (λ (r : Result (X × Left) ImageFault). go_on r next) a.1 ∙ b.1);
+      let a = one.reads at (cs ++ rest) in
+      let b = two.reads a.0 rest in
+      (b.0, ap (λ (ds : List ℕ). go_on (first (left at ds)) next) (append_assoc bs cs rest) ∙ ap (λ (r : Result (X × Left) ImageFault). go_on r next) a.1 ∙ b.1);
 }
 
 field_back : {X : Type 0} (size : ℕ) (value : List ℕ → X) (fits : X → Bool) (x : X) (bs : List ℕ) → length bs ≡ size → value bs ≡ x → fits x ≡ true → Back (field size value fits) x bs
 field_back {X} size value fits x bs long is good = record {
   reads = λ at rest.
-    let all = bs ++ rest in
-    let front : take size all ≡ bs = take_at bs rest size long in
-    let same : value (take size all) ≡ x = ap value front ∙ is in
-    (at + size,
-     cond-false _ _ _ (le-ltb (length all) size (omega (arith, length-append bs rest)))
-     ∙ cond-true _ _ _ (ap fits same ∙ good)
-     ∙ ap (λ (v : X). Ok (v, left (at + size) (drop size all))) same
-     ∙ ap (λ (ds : List ℕ). Ok (x, left (at + size) ds)) (drop_at bs rest size long));
+      let all = bs ++ rest in
+      let front : take size all ≡ bs = take_at bs rest size long in
+      let same : value (take size all) ≡ x = ap value front ∙ is in (
+        at + size,
+        cond-false _ _ _ (le-ltb (length all) size (omega (arith, length-append bs rest)))
+            ∙ cond-true _ _ _ (ap fits same ∙ good)
+            ∙ ap (λ (v : X). Ok (v, left (at + size) (drop size all))) same
+            ∙ ap (λ (ds : List ℕ). Ok (x, left (at + size) ds)) (drop_at bs rest size long),
+      );
 }
 
 abbrev pub within : ℕ → ℕ → ℕ → Bool
@@ -70,10 +71,12 @@ pub byte_back : (low high n : ℕ) → IsInRange (Byte low high n) → Back (byt
 byte_back low high n range = field_back 1 first_of_bytes (within low high) n (n ∷ []) refl refl (within_from low high n range)
 
 pub short_back : (low high n : ℕ) → high < 2 ^ 16 → IsInRange (Short low high n) → Back (short low high) n (bytes_of (Short low high n))
+unfolding short_bytes
 short_back low high n small range =
     field_back 2 (from_be_bytes w16) (within low high) n (to_be_bytes w16 n) refl (from_be_bytes-to_be_bytes_2 n (omega arith)) (within_from low high n range)
 
 pub long_back : (low high z : ℤ) → FitsSigned w64 z → IsInRange (Long low high z) → Back (long low high) z (bytes_of (Long low high z))
+unfolding long_bytes
 long_back low high z fits range =
     field_back 8 signed_of_bytes (within_signed low high) z (to_be_bytes w64 (cast_unsigned w64 z)) refl
     (ap (cast_signed w64) (from_be_bytes-to_be_bytes_8 (cast_unsigned w64 z) (of_z-lt z fits)) ∙ to_z-of_z fits)
@@ -129,33 +132,33 @@ undo (Ok f) next g e = (f, refl, e)
 undo {X} {Y} (Err fault) next g e = let fails : Result (Y × Left) ImageFault = Err fault in let bad : fails ≡ Ok g = e in absurd cc
 
 pub rest_after : {X Y : Type 0} (first : Reads X) (next : X → Reads Y) (fields : X → List Field) (before : List Field) (whole : Y → List Field) →
-  Takes first fields → ((x : X) → Rest (next x) (before ++ fields x) whole) → Rest (after first next) before whole
+    Takes first fields → ((x : X) → Rest (next x) (before ++ fields x) whole) → Rest (after first next) before whole
 rest_after first next fields before whole one others = record {
   rest = λ s y t are e.
-    let u = undo (first s) next (y, t) e in
-    let a = one.took s u.0.0 u.0.1 are u.1 in
-    let b = (others u.0.0).rest u.0.1 y t a.are_bytes u.2 in
-    (fields u.0.0 ++ b.0, took_more (fields u.0.0) b.0 s u.0.1 t a b.1, sym (append_assoc before (fields u.0.0) b.0) ∙ b.2);
+      let u = undo (first s) next (y, t) e in
+      let a = one.took s u.0.0 u.0.1 are u.1 in
+      let b = (others u.0.0).rest u.0.1 y t a.are_bytes u.2 in
+      (fields u.0.0 ++ b.0, took_more (fields u.0.0) b.0 s u.0.1 t a b.1, sym (append_assoc before (fields u.0.0) b.0) ∙ b.2);
 }
 
 pub rest_give : {X : Type 0} (x : X) (before : List Field) (whole : X → List Field) → before ≡ whole x → Rest (give x) before whole
 rest_give {X} x before whole is = record {
   rest = λ s y t are e.
-    let here : X × Left = (x, s) in
-    let there : X × Left = (y, t) in
-    let pair : here ≡ there = cc in
-    let same : x ≡ y = ap (λ (p : X × Left). p.0) pair in
-    let end : s ≡ t = ap (λ (p : X × Left). p.1) pair in
-    let P : Left → Type 0 = λ u. Took [] s u in
-    ([], subst P end (record { ranges = tt; split = refl; are_bytes = are }), append-nil before ∙ is ∙ ap whole same);
+      let here : X × Left = (x, s) in
+      let there : X × Left = (y, t) in
+      let pair : here ≡ there = cc in
+      let same : x ≡ y = ap (λ (p : X × Left). p.0) pair in
+      let end : s ≡ t = ap (λ (p : X × Left). p.1) pair in
+      let P : Left → Type 0 = λ u. Took [] s u in
+      ([], subst P end (record { ranges = tt; split = refl; are_bytes = are }), append-nil before ∙ is ∙ ap whole same);
 }
 
 pub takes_from : {X : Type 0} (reading : Reads X) (fields : X → List Field) → Rest reading [] fields → Takes reading fields
 takes_from reading fields r = record {
   took = λ s x t are e.
-    let a = r.rest s x t are e in
-    let P : List Field → Type 0 = λ fs. Took fs s t in
-    subst P a.2 a.1;
+      let a = r.rest s x t are e in
+      let P : List Field → Type 0 = λ fs. Took fs s t in
+      subst P a.2 a.1;
 }
 
 -- what a field that was read says
@@ -170,21 +173,21 @@ field_read {X} size value fits s x t e =
     elim (cases_Bool (ltb (length s.bytes) size)) [
       | inl small ↦ let fault : Result (X × Left) ImageFault = Err faults.Short in let bad : fault ≡ Ok (x, t) = sym (cond-true _ _ _ small) ∙ e in absurd cc
       | inr big ↦ let v = value (take size s.bytes) in
-        elim (cases_Bool (fits v)) [
-          | inl good ↦
-            let here : X × Left = (v, left (s.at + size) (drop size s.bytes)) in
-            let there : X × Left = (x, t) in
-            let both : Ok here ≡ Ok there = sym (cond-false _ _ _ big ∙ cond-true _ _ _ good) ∙ e in
-            let pair : here ≡ there = cc in
-            let same : v ≡ x = ap (λ (p : X × Left). p.0) pair in
-            record {
-              room = ltb-false _ _ big;
-              is = sym same;
-              good = ap fits (sym same) ∙ good;
-              rest = sym (ap (λ (p : X × Left). p.1.bytes) pair);
-            }
-          | inr bad ↦ let fault : Result (X × Left) ImageFault = Err (faults.Range s.at) in let no : fault ≡ Ok (x, t) = sym (cond-false _ _ _ big ∙ cond-false _ _ _ bad) ∙ e in absurd cc
-        ]
+          elim (cases_Bool (fits v)) [
+            | inl good ↦
+                let here : X × Left = (v, left (s.at + size) (drop size s.bytes)) in
+                let there : X × Left = (x, t) in
+                let both : Ok here ≡ Ok there = sym (cond-false _ _ _ big ∙ cond-true _ _ _ good) ∙ e in
+                let pair : here ≡ there = cc in
+                let same : v ≡ x = ap (λ (p : X × Left). p.0) pair in
+                record {
+                  room = ltb-false _ _ big;
+                  is = sym same;
+                  good = ap fits (sym same) ∙ good;
+                  rest = sym (ap (λ (p : X × Left). p.1.bytes) pair);
+                }
+            | inr bad ↦ let fault : Result (X × Left) ImageFault = Err (faults.Range s.at) in let no : fault ≡ Ok (x, t) = sym (cond-false _ _ _ big ∙ cond-false _ _ _ bad) ∙ e in absurd cc
+          ]
     ]
 
 are_bytes-take : (n : ℕ) (bs : List ℕ) → AreBytes bs → AreBytes (take n bs)
@@ -205,9 +208,9 @@ took_field : (size : ℕ) (f : Field) (s t : Left) → AreBytes s.bytes → byte
 took_field size f s t are same rest range = record {
   ranges = (range, tt);
   split =
-    sym (take-append-drop size s.bytes)
-    ∙ ap (λ (bs : List ℕ). bs ++ drop size s.bytes) (sym same ∙ sym (append-nil (bytes_of f)))
-    ∙ ap (λ (bs : List ℕ). (bytes_of f ++ []) ++ bs) (sym rest);
+      sym (take-append-drop size s.bytes)
+      ∙ ap (λ (bs : List ℕ). bs ++ drop size s.bytes) (sym same ∙ sym (append-nil (bytes_of f)))
+      ∙ ap (λ (bs : List ℕ). (bytes_of f ++ []) ++ bs) (sym rest);
   are_bytes = let P : List ℕ → Type 0 = AreBytes in subst P (sym rest) (are_bytes-drop size s.bytes are);
 }
 
@@ -218,28 +221,50 @@ first_byte (b ∷ bs) some = refl
 pub byte_takes : (low high : ℕ) → Takes (byte low high) (λ n. Byte low high n ∷ [])
 byte_takes low high = record {
   took = λ s n t are e.
-    let r = field_read 1 first_of_bytes (within low high) s n t e in
-    took_field 1 (Byte low high n) s t are (ap (λ (m : ℕ). m ∷ []) r.is ∙ first_byte s.bytes r.room) r.rest (within_range low high n r.good);
+      let r = field_read 1 first_of_bytes (within low high) s n t e in
+      took_field 1 (Byte low high n) s t are (ap (λ (m : ℕ). m ∷ []) r.is ∙ first_byte s.bytes r.room) r.rest (within_range low high n r.good);
 }
 
 pub short_takes : (low high : ℕ) → Takes (short low high) (λ n. Short low high n ∷ [])
+unfolding short_bytes
 short_takes low high = record {
   took = λ s n t are e.
-    let r = field_read 2 (from_be_bytes w16) (within low high) s n t e in
-    let same : to_be_bytes w16 n ≡ take 2 s.bytes = be_bytes_2 (take 2 s.bytes) n (length-take-le 2 s.bytes r.room) (are_bytes-take 2 s.bytes are) r.is in
-    took_field 2 (Short low high n) s t are same r.rest (within_range low high n r.good);
+      let r = field_read 2 (from_be_bytes w16) (within low high) s n t e in
+      let same : to_be_bytes w16 n ≡ take 2 s.bytes = be_bytes_2 (take 2 s.bytes) n (length-take-le 2 s.bytes r.room) (are_bytes-take 2 s.bytes are) r.is in
+      took_field 2 (Short low high n) s t are same r.rest (within_range low high n r.good);
 }
 
 from_be_bytes-lt : (bs : List ℕ) → AreBytes bs → from_be_bytes w64 bs < 2 ^ 64
 from_be_bytes-lt bs are = omega (arith, are 0, are 1, are 2, are 3, are 4, are 5, are 6, are 7)
 
 pub long_takes : (low high : ℤ) → Takes (long low high) (λ z. Long low high z ∷ [])
+unfolding long_bytes
 long_takes low high = record {
   took = λ s z t are e.
-    let r = field_read 8 signed_of_bytes (within_signed low high) s z t e in
-    let front = are_bytes-take 8 s.bytes are in
-    let number : cast_unsigned w64 z ≡ from_be_bytes w64 (take 8 s.bytes) = ap (cast_unsigned w64) r.is ∙ of_z-to_z w64 (from_be_bytes w64 (take 8 s.bytes)) (from_be_bytes-lt (take 8 s.bytes) front) in
-    let same : to_be_bytes w64 (cast_unsigned w64 z) ≡ take 8 s.bytes = be_bytes_8 (take 8 s.bytes) (cast_unsigned w64 z) (length-take-le 8 s.bytes r.room) front number in
-    let parts = and_parts _ _ r.good in
-    took_field 8 (Long low high z) s t are same r.rest (le_from_test low z parts.0, le_from_test z high parts.1);
+      let r = field_read 8 signed_of_bytes (within_signed low high) s z t e in
+      let front = are_bytes-take 8 s.bytes are in
+      let number : cast_unsigned w64 z ≡ from_be_bytes w64 (take 8 s.bytes) = ap (cast_unsigned w64) r.is ∙ of_z-to_z w64 (from_be_bytes w64 (take 8 s.bytes)) (from_be_bytes-lt (take 8 s.bytes) front) in
+      let same : to_be_bytes w64 (cast_unsigned w64 z) ≡ take 8 s.bytes = be_bytes_8 (take 8 s.bytes) (cast_unsigned w64 z) (length-take-le 8 s.bytes r.room) front number in
+      let parts = and_parts _ _ r.good in
+      took_field 8 (Long low high z) s t are same r.rest (le_from_test low z parts.0, le_from_test z high parts.1);
 }
+
+-- ---- what is written
+
+pub ranges_at : {X : Type 0} (fields : X → List Field) (xs : List X) (i : ℕ) (d : X) → i < length xs → AreInRange (flat_map fields xs) → AreInRange (fields (get_or xs i d))
+ranges_at fields [] i d lt ranges = absurd (omega arith)
+ranges_at fields (x ∷ xs) zero d lt ranges = ranges_front (fields x) (flat_map fields xs) ranges
+ranges_at fields (x ∷ xs) (suc i) d lt ranges = ranges_at fields xs i d (omega arith) (ranges_rest (fields x) (flat_map fields xs) ranges)
+
+pub bytes-take_more : {X : Type 0} (fields : X → List Field) (xs : List X) (i : ℕ) (x : X) → i < length xs → x ≡ get_or xs i x →
+    bytes (flat_map fields (take (i + 1) xs)) ≡ bytes (flat_map fields (take i xs)) ++ bytes (fields x)
+bytes-take_more fields [] i x lt is = absurd (omega arith)
+bytes-take_more {X} fields (y ∷ ys) zero x lt is =
+    ap (λ (fs : List Field). bytes fs) (append-nil (fields y)) ∙ ap (λ (z : X). bytes (fields z)) (sym is)
+bytes-take_more {X} fields (y ∷ ys) (suc i) x lt is =
+    let e : suc i + 1 ≡ suc (i + 1) = omega arith in
+    ap (λ (n : ℕ). bytes (flat_map fields (take n (y ∷ ys)))) e
+    ∙ bytes-append (fields y) (flat_map fields (take (i + 1) ys))
+    ∙ ap (λ (bs : List ℕ). bytes (fields y) ++ bs) (bytes-take_more fields ys i x (omega arith) is)
+    ∙ sym (append_assoc (bytes (fields y)) (bytes (flat_map fields (take i ys))) (bytes (fields x)))
+    ∙ ap (λ (bs : List ℕ). bs ++ bytes (fields x)) (sym (bytes-append (fields y) (flat_map fields (take i ys))))

@@ -1,11 +1,9 @@
 -- What the reading of a field gives.
-use Rattle.std.proofs.Common.{◌≡◌, ℕ, ◌+◌, ◌<◌, ◌≤◌, Bool, true, false, ltb, ◌&&◌, ℤ, int_le, List, length, take, drop, Result, Ok, Err, refl, sym, ap, ◌∙◌, arith}
-use Rattle.std.proofs.lemmas.Bool.{cond-true, cond-false, le-ltb, lt-ltb}
+use Rattle.std.proofs.Common.{◌≡◌, ℕ, ◌+◌, ◌≤◌, Bool, true, false, List, length, take, drop, Ok, Err, sym, ap, ◌∙◌}
+use Rattle.std.proofs.lemmas.Bool.{cond-true, cond-false, le-ltb}
 use Rattle.std.proofs.lemmas.List.{drop-drop}
-use Rattle.std.specs.Int.{w64, from_be_bytes, cast_signed}
 use Rattle.node_tables.specs.Left.{Left}
-use Rattle.node_tables.specs.Reading.{Reads, field, long}
-use Rattle.node_tables.specs.declared.fault.ImageFault.{ImageFault}
+use Rattle.node_tables.specs.Reading.{field}
 use Rattle.node_tables.specs.declared.fault.ImageFault.TheVariants.{Range}
 
 -- what is left from a place on
@@ -13,7 +11,7 @@ abbrev pub from : ℕ → List ℕ → Left
 from at image = record { at = at; bytes = drop at image }
 
 pub field_ok : {X : Type 0} (size : ℕ) (value : List ℕ → X) (fits : X → Bool) (at : ℕ) (image : List ℕ) (v : X) → size ≤ length (drop at image) →
-  v ≡ value (take size (drop at image)) → fits v ≡ true → field size value fits (from at image) ≡ Ok (v, from (at + size) image)
+    v ≡ value (take size (drop at image)) → fits v ≡ true → field size value fits (from at image) ≡ Ok (v, from (at + size) image)
 field_ok {X} size value fits at image v room is good =
     let left = drop at image in
     let test : fits (value (take size left)) ≡ true = ap fits (sym is) ∙ good in
@@ -23,7 +21,7 @@ field_ok {X} size value fits at image v room is good =
     ∙ ap (λ (bs : List ℕ). Ok (v, record { at = at + size; bytes = bs })) (drop-drop size at image)
 
 pub field_out : {X : Type 0} (size : ℕ) (value : List ℕ → X) (fits : X → Bool) (at : ℕ) (image : List ℕ) (v : X) → size ≤ length (drop at image) →
-  v ≡ value (take size (drop at image)) → fits v ≡ false → field size value fits (from at image) ≡ Err (Range at)
+    v ≡ value (take size (drop at image)) → fits v ≡ false → field size value fits (from at image) ≡ Err (Range at)
 field_out size value fits at image v room is bad =
     let left = drop at image in
     let test : fits (value (take size left)) ≡ false = ap fits (sym is) ∙ bad in

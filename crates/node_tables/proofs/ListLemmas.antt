@@ -1,5 +1,5 @@
 -- A list read item by item.
-use Rattle.std.proofs.Common.{◌≡◌, ℕ, zero, suc, ◌+◌, ◌-◌, ◌≤◌, ◌<◌, List, [], ◌∷◌, ◌++◌, Result, Ok, Err, refl, sym, ap, ◌∙◌, arith, append_assoc, append-nil}
+use Rattle.std.proofs.Common.{◌≡◌, ℕ, zero, suc, ◌+◌, ◌<◌, List, [], ◌∷◌, ◌++◌, Result, Ok, Err, refl, sym, ap, ◌∙◌, arith, append_assoc, append-nil}
 use Rattle.node_tables.specs.Left.{Left}
 use Rattle.node_tables.specs.Reading.{Reads, after, go_on, give, counted}
 use Rattle.node_tables.specs.declared.fault.ImageFault.{ImageFault}
@@ -19,7 +19,7 @@ prefixed_onto xs x (Err e) = refl
 
 -- one more item was read
 pub prefixed_more : {X : Type 0} (reading : Reads X) (xs : List X) (n m : ℕ) (s t : Left) (x : X) → n ≡ m + 1 → reading s ≡ Ok (x, t) →
-  prefixed xs (counted n reading s) ≡ prefixed (xs ++ x ∷ []) (counted m reading t)
+    prefixed xs (counted n reading s) ≡ prefixed (xs ++ x ∷ []) (counted m reading t)
 prefixed_more {X} reading xs n m s t x one read =
     let e : n ≡ suc m = omega arith in
     ap (λ (k : ℕ). prefixed xs (counted k reading s)) e
@@ -27,7 +27,7 @@ prefixed_more {X} reading xs n m s t x one read =
     ∙ prefixed_onto xs x (counted m reading t)
 
 pub prefixed_fault : {X : Type 0} (reading : Reads X) (xs : List X) (n : ℕ) (s : Left) (fault : ImageFault) → 0 < n → reading s ≡ Err fault →
-  prefixed xs (counted n reading s) ≡ Err fault
+    prefixed xs (counted n reading s) ≡ Err fault
 prefixed_fault reading xs zero s fault some read = absurd (omega arith)
 prefixed_fault {X} reading xs (suc m) s fault some read =
     ap (λ (r : Result (X × Left) ImageFault). prefixed xs (go_on r (λ y. after (counted m reading) (λ ys. give (y ∷ ys))))) read

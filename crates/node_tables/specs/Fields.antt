@@ -9,11 +9,19 @@ pub data Field : Type 0 where
   Short : ℕ → ℕ → ℕ → Field
   Long : ℤ → ℤ → ℤ → Field
 
--- its value with the high byte first, in two's complement
+-- two bytes, the high one first
+unfoldable pub short_bytes : ℕ → List ℕ
+short_bytes n = to_be_bytes w16 n
+
+-- eight bytes in two's complement, the highest first
+unfoldable pub long_bytes : ℤ → List ℕ
+long_bytes z = to_be_bytes w64 (cast_unsigned w64 z)
+
+-- the bytes of its value
 abbrev pub bytes_of : Field → List ℕ
 bytes_of (Byte low high n) = n ∷ []
-bytes_of (Short low high n) = to_be_bytes w16 n
-bytes_of (Long low high z) = to_be_bytes w64 (cast_unsigned w64 z)
+bytes_of (Short low high n) = short_bytes n
+bytes_of (Long low high z) = long_bytes z
 
 abbrev pub IsInRange : Field → Type 0
 IsInRange (Byte low high n) = (low ≤ n) × (n ≤ high)

@@ -1,5 +1,5 @@
 -- The image of a node's table, version 1.
-use Rattle.std.specs.Prelude.{◌≡◌, ℕ, ℤ, pos, negsuc, List, [], ◌∷◌, ◌++◌, length, map}
+use Rattle.std.specs.Prelude.{◌≡◌, ℕ, pos, negsuc, List, [], ◌∷◌, ◌++◌, length}
 use Rattle.std.specs.List.{flat_map}
 use Rattle.node_tables.specs.declared.tables.NodeTable.{NodeTable}
 use Rattle.node_tables.specs.declared.tables.ModeTable.{ModeTable}
@@ -61,7 +61,15 @@ table_fields t =
     ∷ Byte 1 8 (length t.modes)
     ∷ flat_map mode_fields t.modes
 
+-- the bytes of the fields
+abbrev pub image_of : NodeTable → List ℕ
+image_of t = bytes (table_fields t)
+
+-- every field and every count of the table is in its range
+abbrev pub IsInRange : NodeTable → Type 0
+IsInRange t = AreInRange (table_fields t)
+
 -- the bytes are the fields of the table, each in its range
 pub record Image (t : NodeTable) (image : List ℕ) : Type 0 where
-  pub ranges : AreInRange (table_fields t)
-  pub fields : image ≡ bytes (table_fields t)
+  pub ranges : IsInRange t
+  pub fields : image ≡ image_of t

@@ -1,26 +1,43 @@
 //! What an image has lists of, read one after the other.
 
-ghost use Rattle.std.specs.Prelude.{◌≡◌, ◌≢◌, Ok, Err, IfOk, IfErr};
+ghost use Rattle.std.specs.Prelude.{◌≡◌, ◌≢◌, ◌++◌, Ok, Err, IfOk, IfErr, OnOk};
+ghost use Rattle.std.specs.List.{flat_map};
+ghost use Rattle.node_tables.specs.Fields.{AreInRange, bytes};
+ghost use Rattle.node_tables.specs.Image as images;
 ghost use Rattle.node_tables.specs.Reading as reads;
 ghost use Rattle.node_tables.specs.declared.fault.ImageFault.TheVariants.{Memory};
-
-use app_graph::ListOf;
-use std::alloc::Global;
 
 use crate::fault::ImageFault;
 use crate::reader::Reader;
 use crate::tables::{ModeTable, NodeTable, OwnMessage, OwnRound, OwnSlot, OwnTask};
+use crate::writer::{put_byte, put_long, put_short};
+use app_graph::ListOf;
+use std::alloc::{AllocError, Global};
+use ttw_text::Out;
 
-/// What stands in a list of an image.
+/// The version of the images that are written.
+const VERSION: u8 = 1;
+
+/// What an image has one of, or a list of.
 pub trait Entry: Sized + Drop {
+    ghost use Rattle.std.specs.Prelude.{List};
+    ghost use Rattle.node_tables.specs.Fields.{Field};
     ghost use Rattle.node_tables.specs.Reading.{Reads};
 
     /// How it is read.
     ghost reading: { Reads Self };
 
+    /// The fields that it stands in.
+    ghost fields: { Self → List Field };
+
     fn read(alloc: Global, reader: &mut Reader<'_>) -> Result<Self, ImageFault>
         ensures ok { IfOk result (λ x. reading reader.old ≡ Ok (x, reader.new)) }
         ensures err { IfErr result (λ fault. fault ≢ Memory → reading reader.old ≡ Err fault) };
+
+    /// Adds its bytes. After an `Err` some of them were added.
+    fn write(&self, out: &mut Out) -> Result<(), AllocError>
+        requires { AreInRange (fields self.now) }
+        ensures { OnOk result (out.new ≡ out.old ++ bytes (fields self.now)) };
 }
 
 /// So many entries.
@@ -41,17 +58,36 @@ fn read_list<T: Entry>(
     Ok(ListOf::from_vec(items))
 }
 
+/// Adds the bytes of entries.
+fn write_list<T: Entry>(items: &[T], out: &mut Out) -> Result<(), AllocError>
+    requires { AreInRange (flat_map T.fields items.now) }
+    ensures { OnOk result (out.new ≡ out.old ++ bytes (flat_map T.fields items.now)) }
+{
+    for item in items {
+        item.write(out)?;
+    }
+    Ok(())
+}
+
 /// The number of a task.
 impl Entry for u32 {
     ghost reading = { reads.task_number };
 
+    ghost fields = { images.task_field };
+
     fn read(_alloc: Global, reader: &mut Reader<'_>) -> Result<u32, ImageFault> {
         Ok(u32::from(reader.short(0, 1023)?))
+    }
+
+    fn write(&self, out: &mut Out) -> Result<(), AllocError> {
+        put_short(out, *self as u16)
     }
 }
 
 impl Entry for OwnSlot {
     ghost reading = { reads.slot };
+
+    ghost fields = { images.slot_fields };
 
     fn read(_alloc: Global, reader: &mut Reader<'_>) -> Result<OwnSlot, ImageFault> {
         let slot = reader.byte(1, 32)?;
@@ -63,10 +99,18 @@ impl Entry for OwnSlot {
             release,
         })
     }
+
+    fn write(&self, out: &mut Out) -> Result<(), AllocError> {
+        put_byte(out, self.slot)?;
+        put_short(out, self.message as u16)?;
+        put_long(out, self.release)
+    }
 }
 
 impl Entry for OwnTask {
     ghost reading = { reads.task };
+
+    ghost fields = { images.task_fields };
 
     fn read(_alloc: Global, reader: &mut Reader<'_>) -> Result<OwnTask, ImageFault> {
         let number = reader.short(0, 1023)?;
@@ -80,10 +124,19 @@ impl Entry for OwnTask {
             wcet,
         })
     }
+
+    fn write(&self, out: &mut Out) -> Result<(), AllocError> {
+        put_short(out, self.number as u16)?;
+        put_long(out, self.period)?;
+        put_long(out, self.offset)?;
+        put_long(out, self.wcet)
+    }
 }
 
 impl Entry for OwnRound {
     ghost reading = { reads.round };
+
+    ghost fields = { images.round_fields };
 
     fn read(alloc: Global, reader: &mut Reader<'_>) -> Result<OwnRound, ImageFault> {
         let start = reader.long(0, 1_000_000_000_000)?;
@@ -91,10 +144,19 @@ impl Entry for OwnRound {
         let slots = read_list(alloc, reader, u16::from(count))?;
         Ok(OwnRound { start, slots })
     }
+
+    fn write(&self, out: &mut Out) -> Result<(), AllocError> {
+        let slots = self.slots.as_slice();
+        put_long(out, self.start)?;
+        put_byte(out, slots.len() as u8)?;
+        write_list(slots, out)
+    }
 }
 
 impl Entry for OwnMessage {
     ghost reading = { reads.message };
+
+    ghost fields = { images.message_fields };
 
     fn read(alloc: Global, reader: &mut Reader<'_>) -> Result<OwnMessage, ImageFault> {
         let number = reader.short(0, 511)?;
@@ -110,10 +172,23 @@ impl Entry for OwnMessage {
             consumers,
         })
     }
+
+    fn write(&self, out: &mut Out) -> Result<(), AllocError> {
+        let producers = self.producers.as_slice();
+        let consumers = self.consumers.as_slice();
+        put_short(out, self.number as u16)?;
+        put_byte(out, self.role)?;
+        put_byte(out, producers.len() as u8)?;
+        write_list(producers, out)?;
+        put_byte(out, consumers.len() as u8)?;
+        write_list(consumers, out)
+    }
 }
 
 impl Entry for ModeTable {
     ghost reading = { reads.mode };
+
+    ghost fields = { images.mode_fields };
 
     fn read(alloc: Global, reader: &mut Reader<'_>) -> Result<ModeTable, ImageFault> {
         let hyper = reader.long(1, 1_000_000_000_000)?;
@@ -132,10 +207,26 @@ impl Entry for ModeTable {
             rounds,
         })
     }
+
+    fn write(&self, out: &mut Out) -> Result<(), AllocError> {
+        let rounds = self.rounds.as_slice();
+        let tasks = self.tasks.as_slice();
+        let messages = self.messages.as_slice();
+        put_long(out, self.hyper)?;
+        put_short(out, self.first_round)?;
+        put_short(out, rounds.len() as u16)?;
+        put_short(out, tasks.len() as u16)?;
+        write_list(tasks, out)?;
+        put_short(out, messages.len() as u16)?;
+        write_list(messages, out)?;
+        write_list(rounds, out)
+    }
 }
 
 impl Entry for NodeTable {
     ghost reading = { reads.table };
+
+    ghost fields = { images.table_fields };
 
     fn read(alloc: Global, reader: &mut Reader<'_>) -> Result<NodeTable, ImageFault> {
         let _version = reader.byte(1, 1)?;
@@ -146,5 +237,13 @@ impl Entry for NodeTable {
             node: u32::from(node),
             modes,
         })
+    }
+
+    fn write(&self, out: &mut Out) -> Result<(), AllocError> {
+        let modes = self.modes.as_slice();
+        put_byte(out, VERSION)?;
+        put_byte(out, self.node as u8)?;
+        put_byte(out, modes.len() as u8)?;
+        write_list(modes, out)
     }
 }

@@ -1,17 +1,28 @@
 //! Images of node tables.
 
 ghost use Rattle.std.specs.Prelude.{◌≡◌, ◌≢◌, ◌⊎◌, ◌++◌, Ok, Err, IfOk, IfErr, OnOk, OnErr};
-ghost use Rattle.node_tables.specs.Image.{Image};
+ghost use Rattle.node_tables.specs.Image.{Image, IsInRange, image_of};
 ghost use Rattle.node_tables.specs.Reading as reads;
 ghost use Rattle.node_tables.specs.declared.fault.ImageFault.TheVariants.{Memory};
 ghost use Rattle.node_tables.specs.declared.tables.NodeTable.{NodeTable};
-
-use std::alloc::Global;
 
 use crate::entries::Entry;
 use crate::fault::ImageFault;
 use crate::reader::Reader;
 use crate::tables::NodeTable;
+use std::alloc::{AllocError, Global};
+use ttw_text::Out;
+
+/// Adds the image of a table. After an `Err` the text is unchanged.
+pub fn write_image(alloc: Global, table: &NodeTable, out: &mut Out) -> Result<(), AllocError>
+    requires { IsInRange table.now }
+    ensures ok { OnOk result (out.new ≡ out.old ++ image_of table.now) }
+    ensures err { OnErr result (out.new ≡ out.old) }
+{
+    let mut image = Out::make(alloc);
+    table.write(&mut image)?;
+    out.put(image.bytes())
+}
 
 /// The table that has this image. The first fault in the order of the bytes decides.
 pub fn read_image(alloc: Global, bytes: &[u8]) -> Result<NodeTable, ImageFault>

@@ -1,15 +1,15 @@
 //! Node tables and their images.
 #![tactic(auto)]
 
-
 mod entries;
 mod fault;
 mod image;
-
 mod reader;
 mod tables;
+#[cfg(test)]
+mod tests;
+mod writer;
 
 pub use fault::ImageFault;
-pub use image::read_image;
-
+pub use image::{read_image, write_image};
 pub use tables::{ModeTable, NodeTable, OwnMessage, OwnRound, OwnSlot, OwnTask};

@@ -3,9 +3,8 @@
 ghost use Rattle.std.specs.Prelude.{◌≡◌, ◌==◌, ◌&&◌, int_le, length, Ok, Err, IfOk, IfErr};
 ghost use Rattle.node_tables.specs.Reading as reads;
 
-use std::marker::Model;
-
 use crate::fault::ImageFault;
+use std::marker::Model;
 
 /// An image, and the place of the next field. Contracts see that place and the bytes from there.
 #[derive(Drop)]

@@ -1,5 +1,5 @@
 -- The parts of the texts of schedules and documents.
-use Rattle.std.proofs.Common.{◌≡◌, ℕ, ◌+◌, ◌<◌, List, [], ◌∷◌, ◌++◌, length, get_or, map, refl, sym, ap, ◌∙◌, arith}
+use Rattle.std.proofs.Common.{◌≡◌, ℕ, ◌+◌, ◌<◌, List, [], ◌∷◌, ◌++◌, length, get_or, map, sym, ap, ◌∙◌, arith}
 use Rattle.std.specs.Prelude.{unsigned_abs}
 use Rattle.std.specs.List.{flat_map, zip, enumerate_from}
 use Rattle.std.proofs.lemmas.List.FromFn.{length-enumerate_from, get_or-enumerate_from}
@@ -7,7 +7,7 @@ use Rattle.app_graph.specs.declared.mode_set.ModeSet.{ModeSet}
 use Rattle.app_graph.specs.declared.mode_set.Mode.{Mode}
 use Rattle.sched_model.specs.declared.schedule.Schedule.{Schedule}
 use Rattle.proof_tree.specs.declared.tree.ModePart.{ModePart}
-use Rattle.proof_tree.specs.Items.{Item, Head, ModeNamed, ScheduleOf, Start, End, line_of, text_of}
+use Rattle.proof_tree.specs.Items.{Head, ModeNamed, ScheduleOf, Start, End, line_of, text_of}
 use Rattle.proof_tree.specs.Names.{tasks_in, messages_in}
 use Rattle.proof_tree.specs.PlanText.{task_item, message_item, table_item, schedule_items, refuted_items, answer_items, part_items, plan_text}
 use Rattle.proof_tree.proofs.WrittenLemmas.{text_of-append, text_of-flat_map}

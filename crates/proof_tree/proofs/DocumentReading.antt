@@ -1,16 +1,16 @@
 -- A document that is read stands there: the counts of a mode, the modes, and the whole.
-use Rattle.std.proofs.Common.{◌≡◌, ℕ, zero, suc, ◌+◌, ◌-◌, ◌≤◌, ◌<◌, Bool, true, false, cond, eqb, ltb, List, [], ◌∷◌, ◌++◌, length, map, Option, Some, None, Result, Ok, Err, refl, sym, ap, subst, ◌∙◌, arith}
+use Rattle.std.proofs.Common.{◌≡◌, ℕ, zero, suc, ◌+◌, Bool, true, false, cond, eqb, ltb, List, [], ◌∷◌, length, Option, Some, None, Result, Ok, Err, refl, sym, ap, subst, ◌∙◌, arith}
 use Rattle.std.specs.List.{enumerate_from}
 use Rattle.std.specs.Str.{bytes_eq}
 use Rattle.std.proofs.lemmas.Bool.{eqb-true}
 use Rattle.std.proofs.lemmas.List.{nil_from_length}
-use Rattle.sched_model.specs.PlainMode.{PlainMode, most_rounds}
+use Rattle.sched_model.specs.PlainMode.{most_rounds}
 use Rattle.sched_model.specs.declared.schedule.Schedule.{Schedule}
-use Rattle.proof_tree.specs.Items.{Item, Head, ModeNamed, Refute, Branch, Short, Full, Cycle, ScheduleOf, Start, TaskAt, MessageAt, TableOf, Absent, End}
-use Rattle.proof_tree.specs.TreeLines.{Items, TreesFrom, TreeStands}
-use Rattle.proof_tree.specs.Accepting.{DocMode, EachIs, Told, schedule_of, Tells, ModeEnds, IsMode, IsPlan}
-use Rattle.proof_tree.specs.Reading.{Refusal, Grammar, Names, BadLeaf, Extra, MissingCount, Unfinished, Place, Read, ◌>>=◌, next_item, after, due, schedule, tree, tree_line, counts_at, mode_line, mode, fixed, is_head, is_end, Reading, with_mode, read_modes, close_at, close, behind_head, read_document}
-use Rattle.proof_tree.proofs.TreeReading.{place, bind_ok, good, ok_is, refused, tree_gives}
+use Rattle.proof_tree.specs.Items.{Head, ModeNamed, Refute, Branch, Short, Full, Cycle, ScheduleOf, Absent, End}
+use Rattle.proof_tree.specs.TreeLines.{Items, TreesFrom}
+use Rattle.proof_tree.specs.Accepting.{DocMode, EachIs, schedule_of, ModeEnds, IsMode, IsPlan}
+use Rattle.proof_tree.specs.Reading.{Refusal, Grammar, Names, Extra, MissingCount, Place, Read, ◌>>=◌, next_item, schedule, tree, counts_at, mode_line, mode, fixed, is_head, is_end, with_mode, read_modes, close_at, close, behind_head, read_document}
+use Rattle.proof_tree.proofs.TreeReading.{place, bind_ok, ok_is, refused, tree_gives}
 use Rattle.proof_tree.proofs.ScheduleReading.{due_is, same_name, chosen, schedule_is}
 
 neither : {A : Type 0} (b : Bool) (f g : Refusal) (x : A × Place) → ◌≡◌ {A = Read A} (cond b (Err f) (Err g)) (Ok x) → ⊥

@@ -1,14 +1,13 @@
 -- A document that stands there is read to its end: counts, modes, and the whole.
-use Rattle.std.proofs.Common.{◌≡◌, ℕ, zero, suc, ◌+◌, ◌-◌, ◌≤◌, ◌<◌, Bool, true, false, cond, eqb, List, [], ◌∷◌, ◌++◌, length, map, Option, Some, None, Result, Ok, Err, refl, sym, ap, subst, ◌∙◌, arith, eq-eqb}
+use Rattle.std.proofs.Common.{◌≡◌, ℕ, zero, suc, ◌+◌, ◌≤◌, List, [], ◌∷◌, length, Option, Some, None, Ok, refl, sym, subst, ◌∙◌, arith, eq-eqb}
 use Rattle.std.specs.List.{enumerate_from, AllByRecursion, AllZip}
-use Rattle.sched_model.specs.PlainMode.{PlainMode, most_rounds}
-use Rattle.sched_model.specs.RightSchedule.{IsSchedule}
+use Rattle.sched_model.specs.PlainMode.{most_rounds}
 use Rattle.sched_model.specs.ValidMode.{IsValid}
 use Rattle.sched_model.specs.declared.schedule.Schedule.{Schedule}
-use Rattle.proof_tree.specs.Items.{Item, Head, ModeNamed, Refute, ScheduleOf, Absent, End}
+use Rattle.proof_tree.specs.Items.{End}
 use Rattle.proof_tree.specs.TreeLines.{Items, TreesFrom}
-use Rattle.proof_tree.specs.Accepting.{DocMode, EachIs, Told, schedule_of, Tells, ModeEnds, IsMode, IsPlan, IsRight}
-use Rattle.proof_tree.specs.Reading.{Refusal, Place, Read, ◌>>=◌, next_item, after, schedule, tree, counts_at, mode_line, mode, fixed, is_head, is_end, Reading, with_mode, read_modes, close_at, close, behind_head, read_document}
+use Rattle.proof_tree.specs.Accepting.{DocMode, EachIs, Tells, ModeEnds, IsMode, IsPlan, IsRight}
+use Rattle.proof_tree.specs.Reading.{Place, next_item, counts_at, mode_line, mode, fixed, is_head, is_end, Reading, read_modes, read_document}
 use Rattle.proof_tree.proofs.TreeReading.{place, tree_takes}
 use Rattle.proof_tree.proofs.FewestRounds.{few, told_rounds}
 use Rattle.proof_tree.proofs.ScheduleWriting.{Reads, same, schedule_reads}

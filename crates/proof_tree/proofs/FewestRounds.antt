@@ -1,5 +1,5 @@
 -- The certificates of an accepted mode show that its schedule has the fewest rounds, or that it has none.
-use Rattle.std.proofs.Common.{◌≡◌, ℕ, zero, suc, ◌+◌, ◌-◌, ◌*◌, ◌/◌, ◌<◌, ◌≤◌, List, [], ◌∷◌, ◌++◌, length, map, get_or, refl, sym, ◌∙◌, ap, subst, arith, ℤ, pos, ◌+ℤ◌, ◌≤ℤ◌, Option, Some, None, ⊎_elim}
+use Rattle.std.proofs.Common.{◌≡◌, ℕ, zero, suc, ◌+◌, ◌*◌, ◌<◌, ◌≤◌, length, sym, ◌∙◌, ap, subst, arith, pos, ◌≤ℤ◌, Option, Some, None, ⊎_elim}
 use Rattle.std.proofs.lemmas.Int.{ints}
 use Rattle.std.proofs.lemmas.Bool.{cases_lt}
 use Rattle.std.proofs.lemmas.Nat.{le-div}
@@ -7,11 +7,10 @@ use Rattle.std.proofs.lemmas.List.{length-map}
 use Rattle.sched_model.specs.declared.schedule.Schedule.{Schedule}
 use Rattle.sched_model.specs.PlainMode.{PlainMode, hyper, most_rounds}
 use Rattle.sched_model.specs.Rounds.{round_start}
-use Rattle.sched_model.specs.RightSchedule.{IsSchedule, RoundsFit, Fewest, NoSchedule}
+use Rattle.sched_model.specs.RightSchedule.{IsSchedule, RoundsFit}
 use Rattle.sched_model.specs.ValidMode.{IsValid}
-use Rattle.proof_tree.specs.Items.{Item, Refute}
 use Rattle.proof_tree.specs.TreeLines.{Items, TreesFrom, TreeStands}
-use Rattle.proof_tree.specs.Accepting.{DocMode, Told, schedule_of, Tells, ModeEnds, IsMode, IsRight}
+use Rattle.proof_tree.specs.Accepting.{DocMode, ModeEnds, IsMode, IsRight}
 use Rattle.proof_tree.specs.Fewest.{IsBest}
 use Rattle.proof_tree.proofs.TreeRefuting.{lines_refute}
 
@@ -19,9 +18,9 @@ trees_at : (m : PlainMode) (r n : ℕ) (ls rest : Items) → TreesFrom m r n ls 
 trees_at m r zero ls rest t q le lt = absurd (omega arith)
 trees_at m r (suc n) ls rest t q le lt =
     ⊎_elim
-      (λ (more : r < q). trees_at m (r + 1) n t.1 rest t.4 q (omega arith) (omega arith))
-      (λ (no_more : q ≤ r). let e : r ≡ q = omega arith in (t.0, t.1, subst (λ (k : ℕ). TreeStands m k t.0 t.1) e t.3))
-      (cases_lt r q)
+    (λ (more : r < q). trees_at m (r + 1) n t.1 rest t.4 q (omega arith) (omega arith))
+    (λ (no_more : q ≤ r). let e : r ≡ q = omega arith in (t.0, t.1, subst (λ (k : ℕ). TreeStands m k t.0 t.1) e t.3))
+    (cases_lt r q)
 
 -- no schedule has as many rounds as one of the trees is for
 none_at : (m : PlainMode) (n : ℕ) (ls rest : Items) → IsValid m → TreesFrom m 1 n ls rest → (r : ℕ) → 1 ≤ r → r ≤ n → (s : Schedule) → IsSchedule m r s → ⊥
@@ -52,9 +51,9 @@ best d (Some s) n ls mid rest ok trees ends right =
     record {
       found = (s, right);
       least = λ q t it. ⊎_elim
-        (λ (less : q < n + 1). absurd (none_at d.mode n ls mid ok trees q it.shape.some (omega arith) t it))
-        (λ (le : n + 1 ≤ q). omega (arith, rounds))
-        (cases_lt q (n + 1));
+          (λ (less : q < n + 1). absurd (none_at d.mode n ls mid ok trees q it.shape.some (omega arith) t it))
+          (λ (le : n + 1 ≤ q). omega (arith, rounds))
+          (cases_lt q (n + 1));
     }
 
 pub mode_is_best : (d : DocMode) (plan : Option Schedule) (ls rest : Items) → IsValid d.mode → IsMode d plan ls rest → IsRight d plan → IsBest d plan

@@ -9,3 +9,5 @@ pub mod FewestRounds
 pub mod DocumentWriting
 pub mod DocumentAnswers
 pub mod LineReading
+pub mod TextReading
+pub mod TreeStanding

@@ -1,5 +1,5 @@
 -- A line is read as what it says.
-use Rattle.std.proofs.Common.{◌≡◌, ℕ, zero, suc, ◌<◌, ◌≤◌, Bool, true, false, cond, ◌&&◌, leb, ltb, List, [], ◌∷◌, ◌++◌, length, map, Option, Some, None, refl, sym, ap, subst, ◌∙◌, arith, ◌⊎◌, inl, inr, ⊎_elim, ◌^◌}
+use Rattle.std.proofs.Common.{◌≡◌, ℕ, ◌<◌, ◌≤◌, Bool, true, false, cond, ◌&&◌, leb, ltb, List, [], ◌∷◌, length, map, Option, Some, None, refl, sym, ap, subst, ◌∙◌, arith, ◌⊎◌, inl, inr, ⊎_elim, ◌^◌}
 use Rattle.std.specs.Prelude.{codes, option_map, is_some, unwrap_or}
 use Rattle.std.specs.Option.{option_and_then}
 use Rattle.std.specs.List.{list_all, join_with_byte, AllByRecursion}
@@ -13,7 +13,7 @@ use Rattle.ttw_text.specs.Words.{parts, IsWord}
 use Rattle.ttw_text.proofs.Spellings.{number_of-spelled, number_of-only}
 use Rattle.ttw_text.proofs.WordLemmas.{parts-append, parts_alone, name_is_word, spelled_is_word}
 use Rattle.proof_tree.specs.Items.{Item, Head, ModeNamed, Refute, Branch, Short, Full, Cycle, ScheduleOf, Start, TaskAt, MessageAt, TableOf, Absent, End, first_word, other_words}
-use Rattle.proof_tree.specs.Grammar.{greatest, plan_number, is_number, value, alone, only, one_number, one_name, some_numbers, number_names, is_one, name_number, two_numbers, name_numbers, form, item_of_words, item_of}
+use Rattle.proof_tree.specs.Grammar.{greatest, plan_number, is_number, value, alone, one_number, one_name, some_numbers, number_names, is_one, name_number, two_numbers, name_numbers, form, item_of_words, item_of}
 use Rattle.proof_tree.specs.Spelled.{fits, is_writable, Says, LinesAreExact}
 
 both : (a b : Bool) → (a && b) ≡ true → (a ≡ true) × (b ≡ true)
@@ -54,7 +54,7 @@ parts_joined : (w : List ℕ) (ws : List (List ℕ)) → IsWord w → AllByRecur
 parts_joined w [] h hs = parts_alone w h
 parts_joined w (v ∷ vs) h hs = parts-append w (join_with_byte 32 (v ∷ vs)) h ∙ ap (λ (l : List (List ℕ)). w ∷ l) (parts_joined v vs hs.0 hs.1)
 
-first_is_word : (i : Item) → IsWord (first_word i)
+pub first_is_word : (i : Item) → IsWord (first_word i)
 first_is_word Head = name_is_word (codes "ttw") refl
 first_is_word (ModeNamed n) = name_is_word (codes "mode") refl
 first_is_word (Refute r) = name_is_word (codes "refute") refl
@@ -78,7 +78,7 @@ names_are_words : (ns : List (List ℕ)) → list_all is_name ns ≡ true → Al
 names_are_words [] h = tt
 names_are_words (n ∷ ns) h = let b = both (is_name n) (list_all is_name ns) h in (name_is_word n b.0, names_are_words ns b.1)
 
-others_are_words : (i : Item) → is_writable i ≡ true → AllByRecursion IsWord (other_words i)
+pub others_are_words : (i : Item) → is_writable i ≡ true → AllByRecursion IsWord (other_words i)
 others_are_words Head h = (name_is_word (codes "1") refl, tt)
 others_are_words (ModeNamed n) h = (name_is_word n h, tt)
 others_are_words (Refute r) h = (spelled_is_word r, tt)
@@ -122,8 +122,8 @@ form_back (MessageAt n o q) h =
     let b = both (is_name n) (fits o && fits q) h in
     let d = both (fits o) (fits q) b.1 in
     ap (option_map (λ t. MessageAt t.0 t.1.0 t.1.1))
-      (cond_true (is_name n) (option_map (λ p. (n, p)) (two_numbers (spelled o ∷ spelled q ∷ []))) None b.0
-        ∙ ap (option_map (λ p. (n, p))) (ap (option_and_then (λ x. option_map (λ y. (x, y)) (plan_number (spelled q)))) (number_back o d.0) ∙ ap (option_map (λ y. (o, y))) (number_back q d.1)))
+    (cond_true (is_name n) (option_map (λ p. (n, p)) (two_numbers (spelled o ∷ spelled q ∷ []))) None b.0
+    ∙ ap (option_map (λ p. (n, p))) (ap (option_and_then (λ x. option_map (λ y. (x, y)) (plan_number (spelled q)))) (number_back o d.0) ∙ ap (option_map (λ y. (o, y))) (number_back q d.1)))
 form_back (TableOf j ns) h =
     let b = both (fits j) (list_all is_name ns) h in
     ap (option_map (λ t. TableOf t.0 t.1)) (ap (option_and_then (λ k. cond (list_all is_name ns) (Some (k, ns)) None)) (number_back j b.0) ∙ cond_true (list_all is_name ns) (Some (j, ns)) None b.1)
@@ -220,7 +220,7 @@ number_names_only (w ∷ ws) t e =
     let d = tested (list_all is_name ws) (Some (b.0, ws)) t b.2 in
     let n = number_only w b.0 b.1 in
     subst (λ (u : ℕ × List (List ℕ)). (w ∷ ws ≡ spelled u.0 ∷ u.1) × ((fits u.0 && list_all is_name u.1) ≡ true)) (some_is (b.0, ws) t d.1)
-      (ap (λ (v : List ℕ). v ∷ ws) n.0, both_true (fits b.0) (list_all is_name ws) n.1 d.0)
+    (ap (λ (v : List ℕ). v ∷ ws) n.0, both_true (fits b.0) (list_all is_name ws) n.1 d.0)
 
 name_number_only : (ws : List (List ℕ)) (t : List ℕ × ℕ) → name_number ws ≡ Some t → (ws ≡ t.0 ∷ spelled t.1 ∷ []) × ((is_name t.0 && fits t.1) ≡ true)
 name_number_only [] t e = absurd (none_is_not t e)
@@ -229,7 +229,7 @@ name_number_only (w ∷ ws) t e =
     let m = mapped (λ o. (w, o)) (one_number ws) t d.1 in
     let n = one_number_only ws m.0 m.1 in
     subst (λ (u : List ℕ × ℕ). (w ∷ ws ≡ u.0 ∷ spelled u.1 ∷ []) × ((is_name u.0 && fits u.1) ≡ true)) m.2
-      (ap (λ (l : List (List ℕ)). w ∷ l) n.0, both_true (is_name w) (fits m.0) d.0 n.1)
+    (ap (λ (l : List (List ℕ)). w ∷ l) n.0, both_true (is_name w) (fits m.0) d.0 n.1)
 
 two_numbers_only : (ws : List (List ℕ)) (t : ℕ × ℕ) → two_numbers ws ≡ Some t → (ws ≡ spelled t.0 ∷ spelled t.1 ∷ []) × ((fits t.0 && fits t.1) ≡ true)
 two_numbers_only [] t e = absurd (none_is_not t e)
@@ -239,7 +239,7 @@ two_numbers_only (w ∷ ws) t e =
     let f = number_only w b.0 b.1 in
     let n = one_number_only ws m.0 m.1 in
     subst (λ (u : ℕ × ℕ). (w ∷ ws ≡ spelled u.0 ∷ spelled u.1 ∷ []) × ((fits u.0 && fits u.1) ≡ true)) m.2
-      (ap (λ (l : List (List ℕ)). w ∷ l) n.0 ∙ ap (λ (v : List ℕ). v ∷ spelled m.0 ∷ []) f.0, both_true (fits b.0) (fits m.0) f.1 n.1)
+    (ap (λ (l : List (List ℕ)). w ∷ l) n.0 ∙ ap (λ (v : List ℕ). v ∷ spelled m.0 ∷ []) f.0, both_true (fits b.0) (fits m.0) f.1 n.1)
 
 name_numbers_only : (ws : List (List ℕ)) (t : List ℕ × (ℕ × ℕ)) → name_numbers ws ≡ Some t → (ws ≡ t.0 ∷ spelled t.1.0 ∷ spelled t.1.1 ∷ []) × ((is_name t.0 && (fits t.1.0 && fits t.1.1)) ≡ true)
 name_numbers_only [] t e = absurd (none_is_not t e)
@@ -248,7 +248,7 @@ name_numbers_only (w ∷ ws) t e =
     let m = mapped (λ p. (w, p)) (two_numbers ws) t d.1 in
     let n = two_numbers_only ws m.0 m.1 in
     subst (λ (u : List ℕ × (ℕ × ℕ)). (w ∷ ws ≡ u.0 ∷ spelled u.1.0 ∷ spelled u.1.1 ∷ []) × ((is_name u.0 && (fits u.1.0 && fits u.1.1)) ≡ true)) m.2
-      (ap (λ (l : List (List ℕ)). w ∷ l) n.0, both_true (is_name w) (fits m.0.0 && fits m.0.1) d.0 n.1)
+    (ap (λ (l : List (List ℕ)). w ∷ l) n.0, both_true (is_name w) (fits m.0.0 && fits m.0.1) d.0 n.1)
 
 -- these words have this meaning alone
 abbrev Only : List ℕ → List (List ℕ) → Item → Type 0

@@ -1,18 +1,16 @@
 -- What is read of a schedule stands there.
-use Rattle.std.proofs.Common.{◌≡◌, ℕ, zero, suc, ◌+◌, ◌-◌, ◌≤◌, ◌<◌, Bool, true, false, cond, eqb, List, [], ◌∷◌, ◌++◌, length, map, Option, Some, None, Ok, Err, refl, sym, ap, subst, ◌∙◌, arith, ◌⊎◌, inl, inr, ⊎_elim}
-use Rattle.std.specs.List.{list_all, enumerate_from}
+use Rattle.std.proofs.Common.{◌≡◌, ℕ, ◌+◌, Bool, true, false, cond, eqb, List, [], ◌∷◌, length, map, Option, Some, None, Ok, Err, refl, sym, ap, subst}
+use Rattle.std.specs.List.{list_all}
 use Rattle.std.specs.Str.{bytes_eq}
-use Rattle.std.proofs.lemmas.Bool.{eqb-true, cases_Bool}
+use Rattle.std.proofs.lemmas.Bool.{eqb-true}
 use Rattle.std.proofs.lemmas.Slice.Eq.{bytes_eq-Decides}
-use Rattle.sched_model.specs.PlainMode.{PlainMode}
 use Rattle.sched_model.specs.Numbers.{below}
-use Rattle.sched_model.specs.RightSchedule.{IsSchedule}
 use Rattle.sched_model.specs.declared.schedule.Schedule.{Schedule}
-use Rattle.proof_tree.specs.Items.{Item, Head, ModeNamed, Refute, Branch, Short, Full, Cycle, ScheduleOf, Start, TaskAt, MessageAt, TableOf, Absent, End}
+use Rattle.proof_tree.specs.Items.{Start, TaskAt, MessageAt, TableOf}
 use Rattle.proof_tree.specs.TreeLines.{Items}
 use Rattle.proof_tree.specs.Accepting.{DocMode, EachIs, OneTask, OneMessage, OneTable, Told, schedule_of, Tells, is_message, number_of}
-use Rattle.proof_tree.specs.Reading.{Refusal, Grammar, Names, Clause, BadLeaf, Extra, MissingCount, Unfinished, Place, Read, ◌>>=◌, next_item, after, each, due, starts_at, task_at, message_at, table_at, schedule}
-use Rattle.proof_tree.proofs.TreeReading.{place, bind_ok, good, ok_is, refused, tree_gives}
+use Rattle.proof_tree.specs.Reading.{Refusal, Grammar, Names, Place, Read, ◌>>=◌, next_item, each, due, starts_at, task_at, message_at, table_at, schedule}
+use Rattle.proof_tree.proofs.TreeReading.{place, bind_ok, ok_is, refused}
 
 pub each_is : {A B : Type 0} (R : A → Place → Read B) (V : A → B → Items → Items → Type 0) → ((a : A) (at : Place) (x : B × Place) → R a at ≡ Ok x → V a x.0 at.rest x.1.rest)
     → (bs : List A) (at : Place) (y : List B × Place) → each R bs at ≡ Ok y → EachIs V bs y.0 at.rest y.1.rest
@@ -77,12 +75,17 @@ schedule_is d r at x e =
     let told : Told = record { starts = a.0.0; tasks = b.0.0; messages = c.0.0; tables = t.0.0 } in
     let j = ok_is (Some (schedule_of told), t.0.1) x t.2 in
     let s = starts_is r at.line at.rest a.0 a.1 in
-    let end : t.0.1.rest ≡ x.1.rest = ap (λ (z : Option Schedule × Place). z.1.rest) j in
-    (told,
+    let end : t.0.1.rest ≡ x.1.rest = ap (λ (z : Option Schedule × Place). z.1.rest) j in (
+      told,
       subst (λ (l : Items). Tells d r told at.rest l) end (record {
-        counted = s.0; first = a.0.1.rest; second = b.0.1.rest; third = c.0.1.rest; starts = s.1;
+        counted = s.0;
+        first = a.0.1.rest;
+        second = b.0.1.rest;
+        third = c.0.1.rest;
+        starts = s.1;
         tasks = each_is (λ name to. task_at name to (next_item to.rest)) OneTask (λ name to y f. task_is name to.line to.rest y f) d.tasks a.0.1 b.0 b.1;
         messages = each_is (λ name to. message_at name to (next_item to.rest)) OneMessage (λ name to y f. message_is name to.line to.rest y f) d.messages b.0.1 c.0 c.1;
         tables = each_is (λ i to. table_at d (i + 1) to (next_item to.rest)) (OneTable d) (λ i to y f. table_is d i to.line to.rest y f) (below r) c.0.1 t.0 t.1;
       }),
-      sym (ap (λ (z : Option Schedule × Place). z.0) j))
+      sym (ap (λ (z : Option Schedule × Place). z.0) j),
+    )

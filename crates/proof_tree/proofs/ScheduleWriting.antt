@@ -1,15 +1,12 @@
 -- What stands of a schedule is read.
-use Rattle.std.proofs.Common.{◌≡◌, ℕ, zero, suc, ◌+◌, ◌-◌, ◌≤◌, ◌<◌, Bool, true, false, cond, eqb, List, [], ◌∷◌, ◌++◌, length, map, Option, Some, None, Result, Ok, Err, refl, sym, ap, subst, ◌∙◌, arith, eq-eqb}
-use Rattle.std.specs.List.{list_all, enumerate_from}
+use Rattle.std.proofs.Common.{◌≡◌, ℕ, ◌+◌, true, List, [], ◌∷◌, length, Some, Ok, refl, sym, subst, eq-eqb}
 use Rattle.std.specs.Str.{bytes_eq}
 use Rattle.std.proofs.lemmas.Slice.Eq.{bytes_eq-Decides}
-use Rattle.sched_model.specs.PlainMode.{PlainMode}
 use Rattle.sched_model.specs.Numbers.{below}
-use Rattle.sched_model.specs.declared.schedule.Schedule.{Schedule}
-use Rattle.proof_tree.specs.Items.{Item, Head, ModeNamed, Refute, ScheduleOf, Start, TaskAt, MessageAt, TableOf, Absent, End}
+use Rattle.proof_tree.specs.Items.{Start}
 use Rattle.proof_tree.specs.TreeLines.{Items}
-use Rattle.proof_tree.specs.Accepting.{DocMode, EachIs, OneTask, OneMessage, OneTable, Told, schedule_of, Tells, is_message, number_of}
-use Rattle.proof_tree.specs.Reading.{Place, Read, ◌>>=◌, next_item, after, each, due, starts_at, task_at, message_at, table_at, schedule}
+use Rattle.proof_tree.specs.Accepting.{DocMode, EachIs, OneTask, OneMessage, OneTable, Told, schedule_of, Tells}
+use Rattle.proof_tree.specs.Reading.{Place, Read, next_item, each, starts_at, task_at, message_at, table_at, schedule}
 use Rattle.proof_tree.proofs.TreeReading.{place}
 
 -- what a reader gives, up to the rest

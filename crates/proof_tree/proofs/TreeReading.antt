@@ -1,10 +1,10 @@
 -- A whole tree is read exactly where its lines are those of a valid one.
-use Rattle.std.proofs.Common.{◌≡◌, ℕ, zero, suc, ◌+◌, Bool, true, false, ℤ, List, [], ◌∷◌, ◌++◌, length, Option, Some, None, Ok, Err, refl, sym, ap, subst, ◌∙◌}
+use Rattle.std.proofs.Common.{◌≡◌, ℕ, zero, suc, ◌+◌, Bool, true, false, ℤ, List, [], ◌∷◌, ◌++◌, length, Some, None, Ok, Err, refl, sym, ap, subst}
 use Rattle.sched_model.specs.PlainMode.{PlainMode}
 use Rattle.sched_model.specs.ConstraintProblem.{alternatives, decisions}
-use Rattle.proof_tree.specs.Items.{Item, Head, ModeNamed, Refute, Branch, Short, Full, Cycle, ScheduleOf, Start, TaskAt, MessageAt, TableOf, Absent, End}
+use Rattle.proof_tree.specs.Items.{Head, ModeNamed, Refute, Branch, Short, Full, Cycle, ScheduleOf, Start, TaskAt, MessageAt, TableOf, Absent, End}
 use Rattle.proof_tree.specs.TreeLines.{Items, leaf_holds, EachOf, ValidLines, TreeStands}
-use Rattle.proof_tree.specs.Reading.{Refusal, Place, Read, ◌>>=◌, next_item, after, each, leaf_end, not_node, tree_at, tree, BadLeaf, Grammar, Unfinished}
+use Rattle.proof_tree.specs.Reading.{Refusal, Place, Read, ◌>>=◌, next_item, each, leaf_end, tree_at, tree, BadLeaf, Grammar, Unfinished}
 
 abbrev pub place : ℕ → Items → Place
 place k ls = record { line = k; rest = ls }
@@ -45,7 +45,7 @@ gives o m r (suc n) p k (Some Branch ∷ ls) x e =
     let b = bind_ok (each (λ a to. tree_at o m r n (p ++ a ∷ []) to (next_item to.rest)) (alternatives m r p) (place (k + 1) ls)) (λ y. Ok (tt, y.1)) x e in
     let end : b.0.1.rest ≡ x.1.rest = ap (λ z. z.1.rest) (ok_is (tt, b.0.1) x b.2) in
     subst (λ (l : Items). EachOf (λ a. ValidLines m r n (p ++ a ∷ [])) (alternatives m r p) ls l) end
-      (each_gives (λ a to. tree_at o m r n (p ++ a ∷ []) to (next_item to.rest)) (λ a. ValidLines m r n (p ++ a ∷ [])) (λ a to y f. gives o m r n (p ++ a ∷ []) to.line to.rest y f) (alternatives m r p) (place (k + 1) ls) b.0 b.1)
+    (each_gives (λ a to. tree_at o m r n (p ++ a ∷ []) to (next_item to.rest)) (λ a. ValidLines m r n (p ++ a ∷ [])) (λ a to y f. gives o m r n (p ++ a ∷ []) to.line to.rest y f) (alternatives m r p) (place (k + 1) ls) b.0 b.1)
 gives o m r n p k (Some Short ∷ ls) x e = leaf_gives (leaf_holds m r p Short) k (place (k + 1) ls) x e
 gives o m r n p k (Some (Full j) ∷ ls) x e = leaf_gives (leaf_holds m r p (Full j)) k (place (k + 1) ls) x e
 gives o m r n p k (Some (Cycle refs) ∷ ls) x e = leaf_gives (leaf_holds m r p (Cycle refs)) k (place (k + 1) ls) x e

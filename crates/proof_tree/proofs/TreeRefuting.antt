@@ -1,5 +1,5 @@
 -- The lines of a valid tree are the nodes of one, and so show that no schedule of so many rounds is right.
-use Rattle.std.proofs.Common.{◌≡◌, ℕ, zero, suc, ◌+◌, ◌-◌, ◌*◌, ◌<◌, ◌≤◌, Bool, true, false, ◌&&◌, eqb, ltb, leb, List, [], ◌∷◌, ◌++◌, length, map, refl, sym, ◌∙◌, ap, subst, ℤ, pos, ◌<ℤ◌, append_assoc, Option, Some, None}
+use Rattle.std.proofs.Common.{◌≡◌, ℕ, zero, suc, ◌-◌, ◌<◌, Bool, true, false, ◌&&◌, eqb, ltb, leb, List, [], ◌∷◌, ◌++◌, length, map, refl, sym, subst, ℤ, pos, append_assoc, Some, None}
 use Rattle.std.specs.Prelude.{int_lt}
 use Rattle.std.specs.List.{AllByRecursion, list_all}
 use Rattle.std.proofs.lemmas.Bool.{ltb-true, leb-true, eqb-true}
@@ -9,15 +9,15 @@ use borrow.Author.Differences.{below_in, lt-true}
 use Rattle.tick_num.specs.declared.differences.Diff.{Diff}
 use Rattle.tick_num.specs.Differences.{named, sum_ℤ, Closes, IsCycle, NegativeCycle}
 use Rattle.sched_model.specs.declared.schedule.Schedule.{Schedule}
-use Rattle.sched_model.specs.PlainMode.{PlainMode, instances}
+use Rattle.sched_model.specs.PlainMode.{PlainMode}
 use Rattle.sched_model.specs.ConstraintProblem.{in_force, alternatives, decisions, load}
 use Rattle.sched_model.specs.RefutationTree.{Node, branch, short, full, cycle, EachOf as EachTree, ValidFrom, IsTree}
 use Rattle.sched_model.specs.RightSchedule.{IsSchedule}
 use Rattle.sched_model.specs.ValidMode.{IsValid}
 use Rattle.sched_model.proofs.Backward.{full_open, made}
 use Rattle.sched_model.proofs.Refutations.{tree_refutes}
-use Rattle.proof_tree.specs.Items.{Item, Head, ModeNamed, Refute, Branch, Short, Full, Cycle, ScheduleOf, Start, TaskAt, MessageAt, TableOf, Absent, End}
-use Rattle.proof_tree.specs.TreeLines.{Items, closes, is_cycle, is_negative, leaf_holds, EachOf, ValidLines, TreeStands}
+use Rattle.proof_tree.specs.Items.{Branch, Short, Full, Cycle}
+use Rattle.proof_tree.specs.TreeLines.{Items, closes, is_cycle, is_negative, EachOf, ValidLines, TreeStands}
 
 both : (a b : Bool) → (a && b) ≡ true → (a ≡ true) × (b ≡ true)
 both true true e = (refl, refl)

@@ -1,5 +1,5 @@
 -- Which plan documents are accepted, in whole trees and whole schedules.
-use Rattle.std.specs.Prelude.{◌≡◌, ℕ, ◌+◌, ◌≤◌, ⊤, Bool, true, nat_le, ℤ, pos, List, [], ◌∷◌, length, map, ◌==◌, unwrap_or, position, Option, Some, None, if◌then◌else◌}
+use Rattle.std.specs.Prelude.{◌≡◌, ℕ, ◌+◌, ⊤, Bool, true, nat_le, pos, List, [], ◌∷◌, length, map, ◌==◌, unwrap_or, position, Option, Some, None, if◌then◌else◌}
 use Rattle.std.specs.List.{slice_split, list_all, list_any, AllZip}
 use Rattle.std.specs.Str.{bytes_eq}
 use Rattle.app_graph.specs.declared.mode_set.ModeSet.{ModeSet}
@@ -24,11 +24,11 @@ pub record DocMode : Type 0 where
 
 abbrev pub doc_mode : ModeSet → Mode → DocMode
 doc_mode set mode = record {
-    name = mode.name;
-    tasks = map (λ task. task.name) (tasks_in mode.apps);
-    messages = map (λ message. message.name) (messages_in mode.apps);
-    mode = plain_mode set mode;
-  }
+  name = mode.name;
+  tasks = map (λ task. task.name) (tasks_in mode.apps);
+  messages = map (λ message. message.name) (messages_in mode.apps);
+  mode = plain_mode set mode;
+}
 
 abbrev pub doc_modes : ModeSet → List DocMode
 doc_modes set = map (doc_mode set) set.modes

@@ -1,12 +1,17 @@
 -- What the definitions say of small documents.
-use Rattle.std.specs.Prelude.{◌≡◌, ℕ, codes, List, [], ◌∷◌, Option, Some, None, Result, Ok, Err, replicate, ◌++◌}
+use Rattle.std.specs.Prelude.{◌≡◌, ℕ, codes, List, [], ◌∷◌, Some, None, Result, Ok, Err, pos, ◌++◌}
+use Rattle.app_graph.specs.declared.mode_set.ModeSet.{ModeSet}
+use Rattle.sched_model.specs.declared.trees.TreeNode.TheVariants as nodes
 use Rattle.sched_model.specs.PlainMode.{PlainMode}
 use Rattle.sched_model.specs.declared.schedule.Schedule.{Schedule}
-use Rattle.proof_tree.specs.Items.{Item, Head, ModeNamed, Refute, Branch, Full, Cycle, ScheduleOf, Start, TaskAt, MessageAt, TableOf, End}
+use Rattle.proof_tree.specs.Items.{Head, ModeNamed, Refute, Branch, Full, Cycle, ScheduleOf, Start, TaskAt, MessageAt, TableOf, End}
 use Rattle.proof_tree.specs.Grammar.{item_of}
 use Rattle.proof_tree.specs.TreeLines.{Items}
-use Rattle.proof_tree.specs.Accepting.{DocMode, items_of}
-use Rattle.proof_tree.specs.Reading.{Reading, Place, Refusal, Grammar, Names, MissingCount, Unfinished, read_document}
+use Rattle.proof_tree.specs.declared.tree.Tree.{Tree}
+use Rattle.proof_tree.specs.declared.tree.ModePart.{ModePart}
+use Rattle.proof_tree.specs.PlanText.{plan_text}
+use Rattle.proof_tree.specs.Accepting.{DocMode, doc_modes, items_of}
+use Rattle.proof_tree.specs.Reading.{Place, Refusal, Grammar, Names, BadLeaf, Extra, MissingCount, Unfinished, read_document}
 
 -- the plan of a loop of three tasks
 abbrev pub loop_plan : List ℕ
@@ -71,3 +76,61 @@ pub record PlaceRows (m : PlainMode) : Type 0 where
   pub zeros : ends (one m) (codes "ttw 1\nmode m\nschedule 01\n") ≡ Err (Grammar 3)
   pub other_table : ends (one m) (codes "ttw 1\nmode m\nschedule 1\nstart 0\ntable 2\n") ≡ Err (Grammar 5)
   pub unknown_message : ends (one m) (codes "ttw 1\nmode m\nschedule 1\nstart 0\ntable 1 x\n") ≡ Err (Names 5)
+
+-- ---- a control loop over three nodes: sensing, control, acting
+
+abbrev pub loop_set : ModeSet
+loop_set = record {
+  slots = 2;
+  round = pos 20;
+  gap = pos 100;
+  host = 0;
+  nodes = codes "n0" ∷ codes "n1" ∷ codes "n2" ∷ [];
+  modes = record {
+    name = codes "run";
+    apps = record {
+      name = codes "loop";
+      period = pos 100;
+      deadline = pos 100;
+      tasks = record { name = codes "sense"; node = 1; wcet = pos 2; body = codes "tally"; number = 0 }
+          ∷ record { name = codes "ctrl"; node = 0; wcet = pos 5; body = codes "tally"; number = 1 }
+          ∷ record { name = codes "act"; node = 2; wcet = pos 1; body = codes "tally"; number = 2 } ∷ [];
+      messages = record { name = codes "m1"; from = 0 ∷ []; to = 1 ∷ []; number = 0 } ∷ record { name = codes "m2"; from = 1 ∷ []; to = 2 ∷ []; number = 1 } ∷ [];
+    } ∷ [];
+  } ∷ [];
+}
+
+abbrev pub loop_schedule : Schedule
+loop_schedule = record {
+  starts = pos 0 ∷ pos 23 ∷ [];
+  tasks = pos 21 ∷ pos 43 ∷ pos 120 ∷ [];
+  messages = (pos 23, pos 43) ∷ (pos 48, pos 120) ∷ [];
+  tables = (1 ∷ []) ∷ (0 ∷ []) ∷ [];
+}
+
+-- the tree for one round
+abbrev pub loop_tree : Tree
+loop_tree = record {
+  nodes = nodes.Branch ∷ nodes.Cycle 0 3 ∷ nodes.Branch ∷ nodes.Cycle 3 3 ∷ nodes.Cycle 6 4 ∷ nodes.Cycle 10 4 ∷ nodes.Cycle 14 3 ∷ [];
+  refs = 17 ∷ 2 ∷ 6 ∷ 19 ∷ 4 ∷ 11 ∷ 19 ∷ 18 ∷ 9 ∷ 11 ∷ 20 ∷ 14 ∷ 16 ∷ 3 ∷ 18 ∷ 7 ∷ 3 ∷ [];
+}
+
+abbrev pub loop_parts : List ModePart
+loop_parts = record { refuted = loop_tree ∷ []; schedule = Some loop_schedule } ∷ []
+
+-- the document's first nine lines, up to the last leaf of its tree
+abbrev pub loop_front : List ℕ
+loop_front = codes "ttw 1\nmode run\nrefute 1\nbranch\ncycle 17 2 6\nbranch\ncycle 19 4 11\ncycle 19 18 9 11\ncycle 20 14 16 3\n"
+
+-- its document, what reading it gives, and where changed documents are refused
+pub record LoopRows : Type 0 where
+  pub text : plan_text loop_set loop_parts ≡ loop_plan
+  pub plans : (read_document (doc_modes loop_set) loop_items).plans ≡ Some loop_schedule ∷ []
+  pub ended : (read_document (doc_modes loop_set) loop_items).ended ≡ Ok (record { line = 21; rest = [] })
+  pub bad_leaf : ends (doc_modes loop_set) (codes "ttw 1\nmode run\nrefute 1\nbranch\ncycle 17 2 7\n") ≡ Err (BadLeaf 5)
+  pub out_of_force : ends (doc_modes loop_set) (codes "ttw 1\nmode run\nrefute 1\nbranch\ncycle 19\n") ≡ Err (BadLeaf 5)
+  pub cut : ends (doc_modes loop_set) loop_front ≡ Err (Grammar 10)
+  pub unfinished : ends (doc_modes loop_set) (loop_front ++ codes "schedule 2\n") ≡ Err (Unfinished 0)
+  pub extra : ends (doc_modes loop_set) (loop_front ++ codes "cycle 18 7 3\nshort\n") ≡ Err (Extra 11)
+  pub missing : ends (doc_modes loop_set) (loop_front ++ codes "cycle 18 7 3\nrefute 3\n") ≡ Err (MissingCount 0 2)
+  pub other_task : ends (doc_modes loop_set) (loop_front ++ codes "cycle 18 7 3\nschedule 2\nstart 0 23\ntask ctrl 21\n") ≡ Err (Names 13)

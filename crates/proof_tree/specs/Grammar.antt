@@ -1,7 +1,7 @@
 -- The grammar of the lines of a plan document.
-use Rattle.std.specs.Prelude.{◌≡◌, ℕ, ◌≤◌, Bool, true, false, nat_le, codes, List, [], ◌∷◌, length, map, Option, Some, None, if◌then◌else◌, option_map, is_some, unwrap_or, IsTrue, All}
+use Rattle.std.specs.Prelude.{ℕ, Bool, true, false, nat_le, codes, List, [], ◌∷◌, map, Option, Some, None, if◌then◌else◌, option_map, is_some, unwrap_or}
 use Rattle.std.specs.Option.{option_and_then}
-use Rattle.std.specs.List.{list_all, join_with_byte}
+use Rattle.std.specs.List.{list_all}
 use Rattle.std.specs.Str.{bytes_eq}
 use Rattle.ttw_text.specs.Names.{is_name}
 use Rattle.ttw_text.specs.Numbers.{number_of}

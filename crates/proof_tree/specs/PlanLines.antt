@@ -1,5 +1,5 @@
 -- What a line that was read says.
-use Rattle.std.specs.Prelude.{List, map}
+use Rattle.std.specs.Prelude.{map}
 use Rattle.proof_tree.specs.declared.lines.PlanLine.{PlanLine}
 use Rattle.proof_tree.specs.declared.lines.PlanLine.TheVariants as lines
 use Rattle.proof_tree.specs.Grammar.{value}

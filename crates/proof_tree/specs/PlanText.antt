@@ -1,5 +1,5 @@
 -- The text of a plan document, from the trees and schedules that it tells of.
-use Rattle.std.specs.Prelude.{ℕ, suc, ◌+◌, List, [], ◌∷◌, ◌++◌, length, map, unsigned_abs, Option, Some, None, ℤ}
+use Rattle.std.specs.Prelude.{ℕ, List, [], ◌∷◌, ◌++◌, length, map, unsigned_abs, Option, Some, None, ℤ}
 use Rattle.std.specs.List.{flat_map, zip, enumerate_from}
 use Rattle.app_graph.specs.declared.mode_set.ModeSet.{ModeSet}
 use Rattle.app_graph.specs.declared.mode_set.Mode.{Mode}

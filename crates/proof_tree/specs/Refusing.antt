@@ -1,5 +1,5 @@
 -- Which plan documents are refused, and with what.
-use Rattle.std.specs.Prelude.{◌≡◌, ℕ, zero, suc, ◌+◌, ◌<◌, ◌≤◌, ⊤, ◌⊎◌, true, List, [], ◌∷◌, length, Option, Some, None, Result, Ok, Err}
+use Rattle.std.specs.Prelude.{◌≡◌, ℕ, zero, suc, ◌+◌, ◌<◌, ◌≤◌, ⊤, ◌⊎◌, true, List, [], ◌∷◌, length, Option, Some, None, Result, Err}
 use Rattle.app_graph.specs.declared.mode_set.ModeSet.{ModeSet}
 use Rattle.sched_model.specs.PlainMode.{PlainMode, task_at}
 use Rattle.sched_model.specs.TaskGraph.{first, last, Reaches}
@@ -7,7 +7,7 @@ use Rattle.sched_model.specs.Rounds.{Carries}
 use Rattle.sched_model.specs.RightSchedule.{RoundsFit, GapsFit, OffsetFits, MessageFits, ChainFits, RunsApart, AllServed, Timely, IsSchedule}
 use Rattle.sched_model.specs.declared.schedule.Schedule.{Schedule}
 use Rattle.proof_tree.specs.Accepting.{DocMode, doc_modes, items_of}
-use Rattle.proof_tree.specs.Reading.{Refusal, Clause, Place, Reading, read_document}
+use Rattle.proof_tree.specs.Reading.{Refusal, Clause, Place, read_document}
 
 -- the schedule keeps the clause of this number, from S1 to S8
 abbrev pub Keeps : PlainMode → Schedule → ℕ → Type 0

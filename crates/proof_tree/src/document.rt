@@ -27,7 +27,8 @@ fn part_of(refs: &[u32], from: usize, len: usize) -> &[u32]
 /// Adds the line of a node.
 fn write_node(node: &TreeNode, refs: &[u32], out: &mut Out) -> Result<(), AllocError>
     ensures ok { OnOk result (out.new ≡ out.old ++ line_of (stored_item refs.now node.now)) }
-    ensures err { OnErr result (StoppedWithin out.old out.new (line_of (stored_item refs.now node.now))) }
+    ensures err { OnErr result
+        (StoppedWithin out.old out.new (line_of (stored_item refs.now node.now))) }
 {
     match node {
         TreeNode::Branch => write_line("branch", Words::Given(&[]), out),
@@ -52,8 +53,11 @@ pub fn write_tree(tree: &Tree, out: &mut Out) -> Result<(), AllocError>
 
 /// Adds the lines of tasks, each with the offset of its first run.
 fn write_tasks(apps: &[App], offsets: &[Time], out: &mut Out) -> Result<(), AllocError>
-    ensures ok { OnOk result (out.new ≡ out.old ++ text_of (map task_item (zip (tasks_in apps.now) offsets.now))) }
-    ensures err { OnErr result (StoppedWithin out.old out.new (text_of (map task_item (zip (tasks_in apps.now) offsets.now)))) }
+    ensures ok { OnOk result
+        (out.new ≡ out.old ++ text_of (map task_item (zip (tasks_in apps.now) offsets.now))) }
+    ensures err { OnErr result
+        (StoppedWithin out.old out.new
+        (text_of (map task_item (zip (tasks_in apps.now) offsets.now)))) }
 {
     for (task, offset) in apps
         .iter()
@@ -71,8 +75,11 @@ fn write_tasks(apps: &[App], offsets: &[Time], out: &mut Out) -> Result<(), Allo
 
 /// Adds the lines of messages, each with where its first window opens and closes.
 fn write_messages(apps: &[App], windows: &[(Time, Time)], out: &mut Out) -> Result<(), AllocError>
-    ensures ok { OnOk result (out.new ≡ out.old ++ text_of (map message_item (zip (messages_in apps.now) windows.now))) }
-    ensures err { OnErr result (StoppedWithin out.old out.new (text_of (map message_item (zip (messages_in apps.now) windows.now)))) }
+    ensures ok { OnOk result
+        (out.new ≡ out.old ++ text_of (map message_item (zip (messages_in apps.now) windows.now))) }
+    ensures err { OnErr result
+        (StoppedWithin out.old out.new
+        (text_of (map message_item (zip (messages_in apps.now) windows.now)))) }
 {
     for (message, window) in apps
         .iter()
@@ -89,8 +96,12 @@ fn write_messages(apps: &[App], windows: &[(Time, Time)], out: &mut Out) -> Resu
 
 /// Adds the lines of tables, from round 1 on, each with the names of its messages.
 fn write_tables(apps: &[App], tables: &[ListOf<u32>], out: &mut Out) -> Result<(), AllocError>
-    ensures ok { OnOk result (out.new ≡ out.old ++ text_of (map (table_item (messages_in apps.now)) (enumerate_from 1 tables.now))) }
-    ensures err { OnErr result (StoppedWithin out.old out.new (text_of (map (table_item (messages_in apps.now)) (enumerate_from 1 tables.now)))) }
+    ensures ok { OnOk result
+        (out.new ≡ out.old
+        ++ text_of (map (table_item (messages_in apps.now)) (enumerate_from 1 tables.now))) }
+    ensures err { OnErr result
+        (StoppedWithin out.old out.new
+        (text_of (map (table_item (messages_in apps.now)) (enumerate_from 1 tables.now)))) }
 {
     for (at, table) in tables.iter().enumerate() {
         let round = at as u64 + 1;
@@ -111,7 +122,8 @@ fn write_tables(apps: &[App], tables: &[ListOf<u32>], out: &mut Out) -> Result<(
 /// Adds the lines of a schedule of this mode.
 fn write_schedule_of(mode: &Mode, s: &Schedule, out: &mut Out) -> Result<(), AllocError>
     ensures ok { OnOk result (out.new ≡ out.old ++ text_of (schedule_items mode.now s.now)) }
-    ensures err { OnErr result (StoppedWithin out.old out.new (text_of (schedule_items mode.now s.now))) }
+    ensures err { OnErr result
+        (StoppedWithin out.old out.new (text_of (schedule_items mode.now s.now))) }
 {
     let apps = mode.apps.as_slice();
     let starts = s.starts.as_slice();
@@ -126,8 +138,10 @@ fn write_schedule_of(mode: &Mode, s: &Schedule, out: &mut Out) -> Result<(), All
     write_tables(apps, s.tables.as_slice(), out)
 }
 
-/// Adds the lines of a schedule of the mode of this number: its rounds and their starts, its tasks and messages with their times,
-/// and the names of each round's messages. After an `Err` a front of these lines was added, here and in the calls below.
+/// Adds the lines of a schedule of the mode of this number: its rounds and their starts, its tasks
+/// and messages with their times,
+/// and the names of each round's messages. After an `Err` a front of these lines was added, here
+/// and in the calls below.
 pub fn write_schedule(
     set: &ModeSet,
     mode: u32,
@@ -135,16 +149,20 @@ pub fn write_schedule(
     out: &mut Out,
 ) -> Result<(), AllocError>
     requires { mode < length set.now.modes }
-    ensures ok { OnOk result (out.new ≡ out.old ++ text_of (schedule_items (mode_at set.now mode) s.now)) }
-    ensures err { OnErr result (StoppedWithin out.old out.new (text_of (schedule_items (mode_at set.now mode) s.now))) }
+    ensures ok { OnOk result
+        (out.new ≡ out.old ++ text_of (schedule_items (mode_at set.now mode) s.now)) }
+    ensures err { OnErr result
+        (StoppedWithin out.old out.new (text_of (schedule_items (mode_at set.now mode) s.now))) }
 {
     write_schedule_of(&set.modes.as_slice()[mode as usize], s, out)
 }
 
-/// Adds the lines of a tree and the line before them, which has the number of rounds that it is for.
+/// Adds the lines of a tree and the line before them, which has the number of rounds that it is
+/// for.
 fn write_refuted(rounds: u64, tree: &Tree, out: &mut Out) -> Result<(), AllocError>
     ensures ok { OnOk result (out.new ≡ out.old ++ text_of (refuted_items (rounds, tree.now))) }
-    ensures err { OnErr result (StoppedWithin out.old out.new (text_of (refuted_items (rounds, tree.now)))) }
+    ensures err { OnErr result
+        (StoppedWithin out.old out.new (text_of (refuted_items (rounds, tree.now)))) }
 {
     write_line("refute", Words::Given(&[Word::Number(rounds)]), out)?;
     write_tree(tree, out)
@@ -152,8 +170,11 @@ fn write_refuted(rounds: u64, tree: &Tree, out: &mut Out) -> Result<(), AllocErr
 
 /// Adds the lines of trees for 1 round, 2 rounds and so on.
 fn write_trees(trees: &[Tree], out: &mut Out) -> Result<(), AllocError>
-    ensures ok { OnOk result (out.new ≡ out.old ++ flat_map text_of (map refuted_items (enumerate_from 1 trees.now))) }
-    ensures err { OnErr result (StoppedWithin out.old out.new (flat_map text_of (map refuted_items (enumerate_from 1 trees.now)))) }
+    ensures ok { OnOk result
+        (out.new ≡ out.old ++ flat_map text_of (map refuted_items (enumerate_from 1 trees.now))) }
+    ensures err { OnErr result
+        (StoppedWithin out.old out.new
+        (flat_map text_of (map refuted_items (enumerate_from 1 trees.now)))) }
 {
     for (at, tree) in trees.iter().enumerate() {
         write_refuted(at as u64 + 1, tree, out)?;
@@ -164,7 +185,8 @@ fn write_trees(trees: &[Tree], out: &mut Out) -> Result<(), AllocError>
 /// Adds the lines of a mode's schedule, or the line that it has none.
 fn write_answer(mode: &Mode, schedule: &Option<Schedule>, out: &mut Out) -> Result<(), AllocError>
     ensures ok { OnOk result (out.new ≡ out.old ++ text_of (answer_items mode.now schedule.now)) }
-    ensures err { OnErr result (StoppedWithin out.old out.new (text_of (answer_items mode.now schedule.now))) }
+    ensures err { OnErr result
+        (StoppedWithin out.old out.new (text_of (answer_items mode.now schedule.now))) }
 {
     match schedule {
         Some(s) => write_schedule_of(mode, s, out),
@@ -175,7 +197,8 @@ fn write_answer(mode: &Mode, schedule: &Option<Schedule>, out: &mut Out) -> Resu
 /// Adds the lines of a mode and its part.
 fn write_part(mode: &Mode, part: &ModePart, out: &mut Out) -> Result<(), AllocError>
     ensures ok { OnOk result (out.new ≡ out.old ++ text_of (part_items (mode.now, part.now))) }
-    ensures err { OnErr result (StoppedWithin out.old out.new (text_of (part_items (mode.now, part.now)))) }
+    ensures err { OnErr result
+        (StoppedWithin out.old out.new (text_of (part_items (mode.now, part.now)))) }
 {
     write_line(
         "mode",
@@ -188,8 +211,11 @@ fn write_part(mode: &Mode, part: &ModePart, out: &mut Out) -> Result<(), AllocEr
 
 /// Adds the lines of modes, each with its part.
 fn write_parts(modes: &[Mode], parts: &[ModePart], out: &mut Out) -> Result<(), AllocError>
-    ensures ok { OnOk result (out.new ≡ out.old ++ flat_map text_of (map part_items (zip modes.now parts.now))) }
-    ensures err { OnErr result (StoppedWithin out.old out.new (flat_map text_of (map part_items (zip modes.now parts.now)))) }
+    ensures ok { OnOk result
+        (out.new ≡ out.old ++ flat_map text_of (map part_items (zip modes.now parts.now))) }
+    ensures err { OnErr result
+        (StoppedWithin out.old out.new
+        (flat_map text_of (map part_items (zip modes.now parts.now)))) }
 {
     for (mode, part) in modes.iter().zip(parts) {
         write_part(mode, part, out)?;

@@ -1,6 +1,6 @@
 //! Laws of plan documents.
 
-ghost use Rattle.proof_tree.specs.DocumentLaws.{AcceptedAreBest, AnswersAreOne, OneAnswers};
+ghost use Rattle.proof_tree.specs.DocumentLaws.{AcceptedAreBest, AnswersAreOne, ListsStand, OneAnswers, TextsAreRead, TreesStand};
 ghost use Rattle.proof_tree.specs.Spelled.{LinesAreExact};
 
 /// A line is read as a meaning exactly where it is the one spelling of that meaning.
@@ -18,7 +18,23 @@ pub fn one_answers()
     ensures { OneAnswers }
 {}
 
-/// Of an accepted document each schedule has the fewest rounds, and a mode without one has no right schedule.
+/// Of an accepted document each schedule has the fewest rounds, and a mode without one has no right
+/// schedule.
 pub fn accepted_are_best()
     ensures { AcceptedAreBest }
+{}
+
+/// The text of lines is read back, line by line, where it is within the limits.
+pub fn texts_are_read()
+    ensures { TextsAreRead }
+{}
+
+/// The lines of a valid tree stand for it.
+pub fn trees_stand()
+    ensures { TreesStand }
+{}
+
+/// The lines of valid trees, each behind the line with its number of rounds, stand for them.
+pub fn lists_stand()
+    ensures { ListsStand }
 {}

@@ -12,3 +12,6 @@ pub use document::{write_plan, write_schedule, write_tree};
 pub use lines::{BadLine, PlanLine, item};
 pub use sched_model::TreeNode;
 pub use tree::{ModePart, Tree};
+
+#[cfg(test)]
+mod tests;

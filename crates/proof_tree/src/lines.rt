@@ -14,7 +14,8 @@ use ttw_text::{Parts, is_name, read_u64, words};
 /// The greatest number of a plan document.
 const GREATEST: u64 = 2_000_000_000_000;
 
-/// What a line says. Parts give the numbers or names of the line, whose spelling was tested; they borrow the line.
+/// What a line says. Parts give the numbers or names of the line, whose spelling was tested; they
+/// borrow the line.
 #[derive(Drop)]
 pub enum PlanLine<'a> {
     /// `ttw 1`: the first line.
@@ -64,13 +65,7 @@ fn number(word: &[u8]) -> Option<u64>
 {
     match read_u64(word) {
         None => None,
-        Some(n) => {
-            if n <= GREATEST {
-                Some(n)
-            } else {
-                None
-            }
-        }
+        Some(n) => { if n <= GREATEST { Some(n) } else { None } }
     }
 }
 
@@ -113,13 +108,7 @@ fn only_word(mut parts: Parts<'_>) -> Option<&[u8]>
 {
     match parts.next() {
         None => None,
-        Some(word) => {
-            if is_empty(parts) {
-                Some(word)
-            } else {
-                None
-            }
-        }
+        Some(word) => { if is_empty(parts) { Some(word) } else { None } }
     }
 }
 
@@ -139,13 +128,7 @@ fn one_name(parts: Parts<'_>) -> Option<&[u8]>
 {
     match only_word(parts) {
         None => None,
-        Some(word) => {
-            if is_name(word) {
-                Some(word)
-            } else {
-                None
-            }
-        }
+        Some(word) => { if is_name(word) { Some(word) } else { None } }
     }
 }
 
@@ -157,7 +140,11 @@ fn some_numbers(parts: Parts<'_>) -> Option<Parts<'_>>
     if first.next().is_none() {
         return None;
     }
-    if all_numbers(&parts) { Some(parts) } else { None }
+    if all_numbers(&parts) {
+        Some(parts)
+    } else {
+        None
+    }
 }
 
 /// A number and names.
@@ -247,10 +234,18 @@ fn form_of<'a>(word: &[u8], parts: Parts<'a>) -> Option<PlanLine<'a>>
     ensures { option_map meaning result ≡ form word.now parts.entry }
 {
     if is(word, "branch") {
-        return if is_empty(parts) { Some(PlanLine::Branch) } else { None };
+        return if is_empty(parts) {
+            Some(PlanLine::Branch)
+        } else {
+            None
+        };
     }
     if is(word, "short") {
-        return if is_empty(parts) { Some(PlanLine::Short) } else { None };
+        return if is_empty(parts) {
+            Some(PlanLine::Short)
+        } else {
+            None
+        };
     }
     if is(word, "full") {
         return match one_number(parts) {
@@ -289,10 +284,18 @@ fn form_of<'a>(word: &[u8], parts: Parts<'a>) -> Option<PlanLine<'a>>
         };
     }
     if is(word, "ttw") {
-        return if is_version(parts) { Some(PlanLine::Head) } else { None };
+        return if is_version(parts) {
+            Some(PlanLine::Head)
+        } else {
+            None
+        };
     }
     if is(word, "none") {
-        return if is_empty(parts) { Some(PlanLine::Absent) } else { None };
+        return if is_empty(parts) {
+            Some(PlanLine::Absent)
+        } else {
+            None
+        };
     }
     if is(word, "schedule") {
         return match one_number(parts) {
@@ -313,12 +316,17 @@ fn form_of<'a>(word: &[u8], parts: Parts<'a>) -> Option<PlanLine<'a>>
         };
     }
     if is(word, "end") {
-        return if is_empty(parts) { Some(PlanLine::End) } else { None };
+        return if is_empty(parts) {
+            Some(PlanLine::End)
+        } else {
+            None
+        };
     }
     None
 }
 
-/// What a line says, without its line feed. An `Err` comes exactly where it has none of the forms. Takes no memory.
+/// What a line says, without its line feed. An `Err` comes exactly where it has none of the forms.
+/// Takes no memory.
 pub fn item(line: &[u8]) -> Result<PlanLine<'_>, BadLine>
     ensures { option_map meaning (result_ok result) ≡ item_of line.now }
 {

@@ -52,7 +52,8 @@ fn write_word(word: &Word<'_>, out: &mut Out) -> Result<(), AllocError>
 /// Adds a space and a word.
 fn write_spaced(word: &Word<'_>, out: &mut Out) -> Result<(), AllocError>
     ensures ok { OnOk result (out.new ≡ out.old ++ after_space (spelling_of word.now)) }
-    ensures err { OnErr result (StoppedWithin out.old out.new (after_space (spelling_of word.now))) }
+    ensures err { OnErr result
+        (StoppedWithin out.old out.new (after_space (spelling_of word.now))) }
 {
     out.put(b" ")?;
     write_word(word, out)
@@ -60,8 +61,10 @@ fn write_spaced(word: &Word<'_>, out: &mut Out) -> Result<(), AllocError>
 
 /// Adds words, each after a space.
 fn write_given(words: &[Word<'_>], out: &mut Out) -> Result<(), AllocError>
-    ensures ok { OnOk result (out.new ≡ out.old ++ flat_map after_space (map spelling_of words.now)) }
-    ensures err { OnErr result (StoppedWithin out.old out.new (flat_map after_space (map spelling_of words.now))) }
+    ensures ok { OnOk result
+        (out.new ≡ out.old ++ flat_map after_space (map spelling_of words.now)) }
+    ensures err { OnErr result
+        (StoppedWithin out.old out.new (flat_map after_space (map spelling_of words.now))) }
 {
     for word in words {
         write_spaced(word, out)?;
@@ -72,7 +75,8 @@ fn write_given(words: &[Word<'_>], out: &mut Out) -> Result<(), AllocError>
 /// Adds numbers, each after a space.
 fn write_numbers(numbers: &[u32], out: &mut Out) -> Result<(), AllocError>
     ensures ok { OnOk result (out.new ≡ out.old ++ flat_map after_space (map spelled numbers.now)) }
-    ensures err { OnErr result (StoppedWithin out.old out.new (flat_map after_space (map spelled numbers.now))) }
+    ensures err { OnErr result
+        (StoppedWithin out.old out.new (flat_map after_space (map spelled numbers.now))) }
 {
     for number in numbers {
         write_spaced(&Word::Number(u64::from(*number)), out)?;
@@ -82,8 +86,10 @@ fn write_numbers(numbers: &[u32], out: &mut Out) -> Result<(), AllocError>
 
 /// Adds times, each after a space.
 fn write_times(times: &[Time], out: &mut Out) -> Result<(), AllocError>
-    ensures ok { OnOk result (out.new ≡ out.old ++ flat_map after_space (map spelled_time times.now)) }
-    ensures err { OnErr result (StoppedWithin out.old out.new (flat_map after_space (map spelled_time times.now))) }
+    ensures ok { OnOk result
+        (out.new ≡ out.old ++ flat_map after_space (map spelled_time times.now)) }
+    ensures err { OnErr result
+        (StoppedWithin out.old out.new (flat_map after_space (map spelled_time times.now))) }
 {
     for time in times {
         write_spaced(&Word::Number(time.unsigned_abs()), out)?;
@@ -112,8 +118,12 @@ fn name_of_message(apps: &[App], number: u32) -> &[u8]
 
 /// Adds the names of the messages of these numbers, each after a space.
 fn write_names(numbers: &[u32], apps: &[App], out: &mut Out) -> Result<(), AllocError>
-    ensures ok { OnOk result (out.new ≡ out.old ++ flat_map after_space (map (name_of (messages_in apps.now)) numbers.now)) }
-    ensures err { OnErr result (StoppedWithin out.old out.new (flat_map after_space (map (name_of (messages_in apps.now)) numbers.now))) }
+    ensures ok { OnOk result
+        (out.new ≡ out.old
+        ++ flat_map after_space (map (name_of (messages_in apps.now)) numbers.now)) }
+    ensures err { OnErr result
+        (StoppedWithin out.old out.new
+        (flat_map after_space (map (name_of (messages_in apps.now)) numbers.now))) }
 {
     for number in numbers {
         write_spaced(&Word::Text(name_of_message(apps, *number)), out)?;
@@ -123,8 +133,10 @@ fn write_names(numbers: &[u32], apps: &[App], out: &mut Out) -> Result<(), Alloc
 
 /// Adds words, each after a space.
 fn write_words(words: Words<'_>, out: &mut Out) -> Result<(), AllocError>
-    ensures ok { OnOk result (out.new ≡ out.old ++ flat_map after_space (spellings_of words.entry)) }
-    ensures err { OnErr result (StoppedWithin out.old out.new (flat_map after_space (spellings_of words.entry))) }
+    ensures ok { OnOk result
+        (out.new ≡ out.old ++ flat_map after_space (spellings_of words.entry)) }
+    ensures err { OnErr result
+        (StoppedWithin out.old out.new (flat_map after_space (spellings_of words.entry))) }
 {
     match words {
         Words::Given(words) => write_given(words, out),
@@ -144,7 +156,8 @@ fn write_words(words: Words<'_>, out: &mut Out) -> Result<(), AllocError>
 /// Adds a line: its first word, the others, each after a space, and a line feed.
 pub fn write_line(first: &str, words: Words<'_>, out: &mut Out) -> Result<(), AllocError>
     ensures ok { OnOk result (out.new ≡ out.old ++ line first.now (spellings_of words.entry)) }
-    ensures err { OnErr result (StoppedWithin out.old out.new (line first.now (spellings_of words.entry))) }
+    ensures err { OnErr result
+        (StoppedWithin out.old out.new (line first.now (spellings_of words.entry))) }
 {
     out.put(first.as_bytes())?;
     write_words(words, out)?;

@@ -11,7 +11,8 @@ use Rattle.runtime_model.specs.LookingBack.{recall, runs, last_beacon}
 use Rattle.runtime_model.specs.Outcomes.{PlainEvent, advance, request, restart, Spot, Step, is_beacon, begun_run}
 use Rattle.runtime_model.specs.Packets.{packet}
 use Rattle.runtime_model.specs.Placement.{placed, own_start, ends_run, ending_run_at}
-use Rattle.runtime_model.specs.Laws.{AllRight}
+use Rattle.runtime_model.specs.Laws.{RequestsFit}
+use Rattle.runtime_model.proofs.Modes.{AllRight}
 use Rattle.runtime_model.specs.Script.{opens_round}
 use Rattle.runtime_model.specs.Plans.{Plan, node_of, RightPlan}
 use Rattle.runtime_model.specs.System.{System, plan_at}
@@ -62,19 +63,19 @@ outcome_is y p s lost ds u (task_starts a) = of_start (placed s.hyper.opening s.
 
 -- each cycle has entries
 abbrev pub SomeEntries : System → Type 0
-SomeEntries y = (es : List PlainEvent) → 1 ≤ length (entries y (last_spot (history y es)).hyper.mode)
+SomeEntries y = (es : List PlainEvent) → RequestsFit y es → 1 ≤ length (entries y (last_spot (history y es)).hyper.mode)
 
-pub seen_or_not : (y : System) → SomeEntries y → (es : List PlainEvent) → Seen y (history y es) ⊎ Unseen y (history y es)
-seen_or_not y some [] = inr (λ i l. absurd (omega (arith, l)))
-seen_or_not y some (request m ∷ es) = ⊎_elim (λ (h : Seen y (history y es)). inl (record { done = h.done; is_last = h.is_last; stay = h.stay; turn = h.turn; mode = h.mode; begin = h.begin; past = h.past; inside = h.inside; is_beacon = h.is_beacon; quiet = h.quiet })) (λ (h : Unseen y (history y es)). inr h) (seen_or_not y some es)
-seen_or_not y some (restart v ∷ es) = ⊎_elim (λ (h : Seen y (history y es)). inl (record { done = h.done; is_last = h.is_last; stay = h.stay; turn = h.turn; mode = h.mode; begin = h.begin; past = h.past; inside = h.inside; is_beacon = h.is_beacon; quiet = h.quiet })) (λ (h : Unseen y (history y es)). inr h) (seen_or_not y some es)
-seen_or_not y some (advance lost ∷ es) =
+pub seen_or_not : (y : System) → SomeEntries y → (es : List PlainEvent) → RequestsFit y es → Seen y (history y es) ⊎ Unseen y (history y es)
+seen_or_not y some [] f = inr (λ i l. absurd (omega (arith, l)))
+seen_or_not y some (request m ∷ es) f = ⊎_elim (λ (h : Seen y (history y es)). inl (record { done = h.done; is_last = h.is_last; stay = h.stay; turn = h.turn; mode = h.mode; begin = h.begin; past = h.past; inside = h.inside; is_beacon = h.is_beacon; quiet = h.quiet })) (λ (h : Unseen y (history y es)). inr h) (seen_or_not y some es f.1)
+seen_or_not y some (restart v ∷ es) f = ⊎_elim (λ (h : Seen y (history y es)). inl (record { done = h.done; is_last = h.is_last; stay = h.stay; turn = h.turn; mode = h.mode; begin = h.begin; past = h.past; inside = h.inside; is_beacon = h.is_beacon; quiet = h.quiet })) (λ (h : Unseen y (history y es)). inr h) (seen_or_not y some es f)
+seen_or_not y some (advance lost ∷ es) f =
     let ds = history y es in
     let s = spot_next y ds in
     let e = entry_at y s in
     let d = step_of y (advance lost) ds in
     let is = outcome_is y (plan_at y s.hyper.mode) s lost ds e.tick e.action in
-    let nonempty = some (advance lost ∷ es) in
+    let nonempty = some (advance lost ∷ es) f in
     let in_cycle_now : s.index < length (entries y s.hyper.mode) = ⊎_elim (λ (m : Same y ds s). subst (λ (z : ℕ). s.index < length (entries y z)) (sym m.alike.mode) (omega (arith, m.inside, m.index)))
     (λ r. ⊎_elim (λ (m : Within y ds s). omega (arith, m.index, nonempty)) (λ (m : Opens y ds s). omega (arith, m.index, nonempty)) r) (moves y ds (stands y es)) in
     ⊎_elim
@@ -100,7 +101,7 @@ seen_or_not y some (advance lost ∷ es) =
       quiet = λ i a b. others (suc h.done.spot.index) (λ i a b. ap (λ (z : ℕ). opens_round (get_or (entries y z) i none).action) mode ∙ h.quiet i (omega (arith, a)) (omega (arith, b, m.index))) i (omega (arith, a)) b;
     }))
     (λ (h : Unseen y ds). inr (λ i b. others 0 (λ i a b. ap (λ (z : ℕ). opens_round (get_or (entries y z) i none).action) mode ∙ h i (omega (arith, b, m.index))) i (omega arith) b))
-    (seen_or_not y some es))
+    (seen_or_not y some es f))
     (λ r. inr (λ i b. others 0 (λ i a b. absurd (omega (arith, b, ⊎_elim (λ (m : Within y ds s). m.index) (λ (m : Opens y ds s). m.index) r))) i (omega arith) b))
     (moves y ds (stands y es)))
     (cases_Bool (opens_round e.action))
@@ -156,17 +157,17 @@ abbrev pub gap_of_mode : System → ℕ → ℕ
 gap_of_mode y md = (plan_at y md).mode.gap
 
 module _ (y : System) (right : AllRight y) where
-  pub some_round : (es : List PlainEvent) → 0 < length (plan_at y (last_spot (history y es)).hyper.mode).schedule.starts
-  some_round es = let k = right es in omega (arith, k.right.shape.some, k.right.shape.starts)
+  pub some_round : (es : List PlainEvent) (rf : RequestsFit y es) → 0 < length (plan_at y (last_spot (history y es)).hyper.mode).schedule.starts
+  some_round es rf = let k = right es rf in omega (arith, k.right.shape.some, k.right.shape.starts)
 
   pub some : SomeEntries y
-  some es = let w = beacon_place y (last_spot (history y es)).hyper.mode (right es) 0 (some_round es) in omega (arith, w.1.0)
+  some es rf = let w = beacon_place y (last_spot (history y es)).hyper.mode (right es rf) 0 (some_round es rf) in omega (arith, w.1.0)
 
   -- what a seen beacon is, and when
-  seen_round : (es : List PlainEvent) (h : Seen y (history y es)) → (j : ℕ) × (j < length (plan_at y (last_spot (history y es)).hyper.mode).schedule.starts)
+  seen_round : (es : List PlainEvent) (rf : RequestsFit y es) (h : Seen y (history y es)) → (j : ℕ) × (j < length (plan_at y (last_spot (history y es)).hyper.mode).schedule.starts)
       × Is y (last_spot (history y es)).hyper.mode h.done.spot.index (natural (round_start (plan_at y (last_spot (history y es)).hyper.mode).schedule j)) (beacon j)
       × (moment y h.done ≡ (last_spot (history y es)).begin + natural (round_start (plan_at y (last_spot (history y es)).hyper.mode).schedule j))
-  seen_round es h =
+  seen_round es rf h =
       let md = (last_spot (history y es)).hyper.mode in
       let g = get_or (entries y md) h.done.spot.index none in
       let w = seen_entry g.action h.is_beacon in
@@ -176,50 +177,50 @@ module _ (y : System) (right : AllRight y) where
       (w.0, at.0, subst (λ z. Is y md h.done.spot.index z (beacon w.0)) (sym at.1) here, omega (arith, h.begin, mode, at.1))
 
   -- a beacon of a lower place that is past is no later than the seen one
-  pub not_lower : (es : List PlainEvent) (h : Seen y (history y es)) (j k i : ℕ) → Is y (last_spot (history y es)).hyper.mode h.done.spot.index (natural (round_start (plan_at y (last_spot (history y es)).hyper.mode).schedule j)) (beacon j) →
+  pub not_lower : (es : List PlainEvent) (rf : RequestsFit y es) (h : Seen y (history y es)) (j k i : ℕ) → Is y (last_spot (history y es)).hyper.mode h.done.spot.index (natural (round_start (plan_at y (last_spot (history y es)).hyper.mode).schedule j)) (beacon j) →
       Is y (last_spot (history y es)).hyper.mode i (natural (round_start (plan_at y (last_spot (history y es)).hyper.mode).schedule k)) (beacon k) → i < next_place (history y es) → k ≤ j
-  not_lower es h j k i a b past =
+  not_lower es rf h j k i a b past =
       let md = (last_spot (history y es)).hyper.mode in
       ⊎_elim
-      (λ (less : j < k). absurd (let q = h.quiet i (beacon_order y md (right es) h.done.spot.index j i k _ _ a b less) past in
+      (λ (less : j < k). absurd (let q = h.quiet i (beacon_order y md (right es rf) h.done.spot.index j i k _ _ a b less) past in
       let r : opens_round (get_or (entries y md) i none).action ≡ true = ap (λ (z : Entry). opens_round z.action) b.1 in
       let s : true ≡ false = sym r ∙ q in cc))
       (λ (le : k ≤ j). le)
       (cases_lt j k)
 
-  pub not_unseen : (es : List PlainEvent) → Unseen y (history y es) → (i k t : ℕ) → Is y (last_spot (history y es)).hyper.mode i t (beacon k) → i < next_place (history y es) → ⊥
-  not_unseen es h i k t b past =
+  pub not_unseen : (es : List PlainEvent) (rf : RequestsFit y es) → Unseen y (history y es) → (i k t : ℕ) → Is y (last_spot (history y es)).hyper.mode i t (beacon k) → i < next_place (history y es) → ⊥
+  not_unseen es rf h i k t b past =
       let md = (last_spot (history y es)).hyper.mode in
       let r : opens_round (get_or (entries y md) i none).action ≡ true = ap (λ (z : Entry). opens_round z.action) b.1 in
       let s : true ≡ false = sym r ∙ h i past in cc
 
   -- at the end of a hyperperiod its last beacon is at most the gap away
-  ended_gap : (es : List PlainEvent) → length (entries y (last_spot (history y es)).hyper.mode) ≤ next_place (history y es) →
+  ended_gap : (es : List PlainEvent) (rf : RequestsFit y es) → length (entries y (last_spot (history y es)).hyper.mode) ≤ next_place (history y es) →
       (g : Step) × (last_beacon (history y es) ≡ Some g) × ((last_spot (history y es)).begin + H y (last_spot (history y es)).hyper.mode ≤ moment y g + gap_of_mode y g.spot.hyper.mode)
-  ended_gap es over =
+  ended_gap es rf over =
       let ds = history y es in
       let md = (last_spot ds).hyper.mode in
       let p = plan_at y md in
       let r = length p.schedule.starts in
-      let k = right es in
-      let w = beacon_place y md k (r - 1) (omega (arith, some_round es)) in
+      let k = right es rf in
+      let w = beacon_place y md k (r - 1) (omega (arith, some_round es rf)) in
       ⊎_elim
       (λ (h : Seen y ds).
-      let q = seen_round es h in
-      let low = not_lower es h q.0 (r - 1) w.0 q.2 w.1 (omega (arith, w.1.0, over)) in
+      let q = seen_round es rf h in
+      let low = not_lower es rf h q.0 (r - 1) w.0 q.2 w.1 (omega (arith, w.1.0, over)) in
       let last : suc q.0 ≡ r = omega (arith, q.1, low) in
       let g = k.right.s2.across q.0 last in
       let gap = ap (λ (z : ℕ). (plan_at y z).mode.gap) h.mode in
       (h.done, h.is_last, omega (arith, ints, g, start_is y md k q.0 q.1, q.3, gap)))
-      (λ (h : Unseen y ds). absurd (not_unseen es h w.0 (r - 1) (natural (round_start p.schedule (r - 1))) w.1 (omega (arith, w.1.0, over))))
-      (seen_or_not y some es)
+      (λ (h : Unseen y ds). absurd (not_unseen es rf h w.0 (r - 1) (natural (round_start p.schedule (r - 1))) w.1 (omega (arith, w.1.0, over))))
+      (seen_or_not y some es rf)
 
   -- before the first beacon of a hyperperiod the last one is at most the gap before its start
-  crossed : (es : List PlainEvent) → Unseen y (history y es) → (last_beacon (history y es) ≡ None) ⊎ ((g : Step) × (last_beacon (history y es) ≡ Some g) × ((last_spot (history y es)).begin ≤ moment y g + gap_of_mode y g.spot.hyper.mode))
-  crossed [] u = inl refl
-  crossed (request m ∷ es) u = crossed es u
-  crossed (restart v ∷ es) u = crossed es u
-  crossed (advance lost ∷ es) u =
+  crossed : (es : List PlainEvent) (rf : RequestsFit y es) → Unseen y (history y es) → (last_beacon (history y es) ≡ None) ⊎ ((g : Step) × (last_beacon (history y es) ≡ Some g) × ((last_spot (history y es)).begin ≤ moment y g + gap_of_mode y g.spot.hyper.mode))
+  crossed [] rf u = inl refl
+  crossed (request m ∷ es) rf u = crossed es rf.1 u
+  crossed (restart v ∷ es) rf u = crossed es rf u
+  crossed (advance lost ∷ es) rf u =
       let ds = history y es in
       let s = spot_next y ds in
       let e = entry_at y s in
@@ -230,22 +231,22 @@ module _ (y : System) (right : AllRight y) where
       (λ (m : Same y ds s).
       ⊎_elim (λ (x : last_beacon ds ≡ None). inl (same_last ∙ x))
       (λ (x : (g : Step) × (last_beacon ds ≡ Some g) × ((last_spot ds).begin ≤ moment y g + gap_of_mode y g.spot.hyper.mode)). inr (x.0, same_last ∙ x.1, omega (arith, x.2, m.begin)))
-      (crossed es (λ i l. sym (ap (λ (z : ℕ). opens_round (get_or (entries y z) i none).action) m.alike.mode) ∙ u i (omega (arith, l, m.index)))))
+      (crossed es rf (λ i l. sym (ap (λ (z : ℕ). opens_round (get_or (entries y z) i none).action) m.alike.mode) ∙ u i (omega (arith, l, m.index)))))
       (λ r. let over : length (entries y (last_spot ds).hyper.mode) ≤ next_place ds = ⊎_elim (λ (m : Within y ds s). m.over) (λ (m : Opens y ds s). m.over) r in
       let begin : s.begin ≡ (last_spot ds).begin + H y (last_spot ds).hyper.mode = ⊎_elim (λ (m : Within y ds s). m.begin) (λ (m : Opens y ds s). m.begin) r in
-      let x = ended_gap es over in
+      let x = ended_gap es rf over in
       inr (x.0, same_last ∙ x.1, omega (arith, x.2, begin)))
       (moves y ds (stands y es))
 
   -- within a hyperperiod
-  in_turn : (es : List PlainEvent) (h : Seen y (history y es)) (g : Step) (i t k b : ℕ) → last_beacon (history y es) ≡ Some g → Is y (last_spot (history y es)).hyper.mode i t (beacon k) → i ≡ next_place (history y es) → b ≡ (last_spot (history y es)).begin →
+  in_turn : (es : List PlainEvent) (rf : RequestsFit y es) (h : Seen y (history y es)) (g : Step) (i t k b : ℕ) → last_beacon (history y es) ≡ Some g → Is y (last_spot (history y es)).hyper.mode i t (beacon k) → i ≡ next_place (history y es) → b ≡ (last_spot (history y es)).begin →
       b + t ≤ moment y g + gap_of_mode y g.spot.hyper.mode
-  in_turn es h g i t k b before is now begin =
+  in_turn es rf h g i t k b before is now begin =
       let ds = history y es in
       let md = (last_spot ds).hyper.mode in
       let p = plan_at y md in
-      let r = right es in
-      let q = seen_round es h in
+      let r = right es rf in
+      let q = seen_round es rf h in
       let at = (subst (λ (x : Entry). RightAt p x.tick x.action) is.1 (entry_right y.nodes p i is.0).1) in
       let same = ap (λ (o : Option Step). unwrap_or o g) (sym h.is_last ∙ before) in
       let m = ap (moment y) same in
@@ -253,7 +254,7 @@ module _ (y : System) (right : AllRight y) where
       ⊎_elim
       (λ (less : q.0 < k).
       let w = beacon_place y md r (k - 1) (omega (arith, at.0)) in
-      let low = not_lower es h q.0 (k - 1) w.0 q.2 w.1 (omega (arith, beacon_order y md r w.0 (k - 1) i k _ _ w.1 is (omega (arith, less)), now)) in
+      let low = not_lower es rf h q.0 (k - 1) w.0 q.2 w.1 (omega (arith, beacon_order y md r w.0 (k - 1) i k _ _ w.1 is (omega (arith, less)), now)) in
       let next : suc q.0 ≡ k = omega (arith, less, low) in
       let e = ap (λ j. natural (round_start p.schedule j)) next in
       let s2 = r.right.s2.within q.0 (omega (arith, next, at.0)) in
@@ -264,27 +265,27 @@ module _ (y : System) (right : AllRight y) where
       (cases_lt k q.0))
       (cases_lt q.0 k)
 
-  pub index_now : (es : List PlainEvent) (lost : ℕ) → (spot_next y (history y es)).index < length (entries y (spot_next y (history y es)).hyper.mode)
-  index_now es lost =
+  pub index_now : (es : List PlainEvent) (rf : RequestsFit y es) (lost : ℕ) → (spot_next y (history y es)).index < length (entries y (spot_next y (history y es)).hyper.mode)
+  index_now es rf lost =
       let ds = history y es in
       let s = spot_next y ds in
-      let nonempty = some (advance lost ∷ es) in
+      let nonempty = some (advance lost ∷ es) rf in
       ⊎_elim (λ (m : Same y ds s). subst (λ (z : ℕ). s.index < length (entries y z)) (sym m.alike.mode) (omega (arith, m.inside, m.index)))
       (λ r. ⊎_elim (λ (m : Within y ds s). omega (arith, m.index, nonempty)) (λ (m : Opens y ds s). omega (arith, m.index, nonempty)) r) (moves y ds (stands y es))
 
   -- consecutive beacons are at most the gap apart
-  pub beacon_gap : (es : List PlainEvent) (lost : ℕ) (g : Step) → is_beacon (step_of y (advance lost) (history y es)).out ≡ true → last_beacon (history y es) ≡ Some g →
+  pub beacon_gap : (es : List PlainEvent) (rf : RequestsFit y es) (lost : ℕ) (g : Step) → is_beacon (step_of y (advance lost) (history y es)).out ≡ true → last_beacon (history y es) ≡ Some g →
       moment y (step_of y (advance lost) (history y es)) ≤ moment y g + gap_of_mode y g.spot.hyper.mode
-  beacon_gap es lost g opens_round before =
+  beacon_gap es rf lost g rings before =
       let ds = history y es in
       let s = spot_next y ds in
       let md = s.hyper.mode in
       let p = plan_at y md in
       let e = entry_at y s in
-      let k = right (advance lost ∷ es) in
-      let here = sym (outcome_is y p s lost ds e.tick e.action) ∙ opens_round in
+      let k = right (advance lost ∷ es) rf in
+      let here = sym (outcome_is y p s lost ds e.tick e.action) ∙ rings in
       let w = seen_entry e.action here in
-      let is : Is y md s.index e.tick (beacon w.0) = (index_now es lost, ap (λ (z : Action). record { tick = e.tick; action = z }) w.1) in
+      let is : Is y md s.index e.tick (beacon w.0) = (index_now es rf lost, ap (λ (z : Action). record { tick = e.tick; action = z }) w.1) in
       let at = (subst (λ (x : Entry). RightAt p x.tick x.action) is.1 (entry_right y.nodes p s.index is.0).1) in
       let zero_place = beacon_place y md k 0 (omega (arith, at.0)) in
       let at_zero = λ (z : w.0 ≡ 0). let q = ap (λ j. natural (round_start p.schedule j)) z in let b = k.right.s1.begin in
@@ -298,21 +299,21 @@ module _ (y : System) (right : AllRight y) where
       let mode = m.alike.mode in
       let is' : Is y (last_spot ds).hyper.mode s.index e.tick (beacon w.0) = subst (λ (z : ℕ). Is y z s.index e.tick (beacon w.0)) mode is in
       ⊎_elim
-      (λ (h : Seen y ds). in_turn es h g s.index e.tick w.0 s.begin (before) is' m.index m.begin)
+      (λ (h : Seen y ds). in_turn es rf h g s.index e.tick w.0 s.begin (before) is' m.index m.begin)
       (λ (u : Unseen y ds). ⊎_elim
       (λ (pos_k : 0 < w.0).
       let z' = subst (λ (z : ℕ). Is y z zero_place.0 (natural (round_start p.schedule 0)) (beacon 0)) mode zero_place.1 in
-      absurd (not_unseen es u zero_place.0 0 (natural (round_start p.schedule 0)) z' (omega (arith, beacon_order y md k zero_place.0 0 s.index w.0 (natural (round_start p.schedule 0)) e.tick zero_place.1 is pos_k, m.index))))
+      absurd (not_unseen es rf u zero_place.0 0 (natural (round_start p.schedule 0)) z' (omega (arith, beacon_order y md k zero_place.0 0 s.index w.0 (natural (round_start p.schedule 0)) e.tick zero_place.1 is pos_k, m.index))))
       (λ (z : w.0 ≤ 0). ⊎_elim
       (λ (x : last_beacon ds ≡ None). absurd (let q = sym x ∙ before in grind (arith, q)))
       (λ (x : (h : Step) × (last_beacon ds ≡ Some h) × ((last_spot ds).begin ≤ moment y h + gap_of_mode y h.spot.hyper.mode)). from_end (x.0, x.1, omega (arith, x.2, m.begin)) (omega (arith, z)))
-      (crossed es u))
+      (crossed es rf u))
       (cases_lt 0 w.0))
-      (seen_or_not y some es))
+      (seen_or_not y some es rf))
       (λ r. let over : length (entries y (last_spot ds).hyper.mode) ≤ next_place ds = ⊎_elim (λ (m : Within y ds s). m.over) (λ (m : Opens y ds s). m.over) r in
       let begin : s.begin ≡ (last_spot ds).begin + H y (last_spot ds).hyper.mode = ⊎_elim (λ (m : Within y ds s). m.begin) (λ (m : Opens y ds s). m.begin) r in
       let index : s.index ≡ 0 = ⊎_elim (λ (m : Within y ds s). m.index) (λ (m : Opens y ds s). m.index) r in
-      let x = ended_gap es over in
+      let x = ended_gap es rf over in
       ⊎_elim
       (λ (pos_k : 0 < w.0). absurd (omega (arith, beacon_order y md k zero_place.0 0 s.index w.0 (natural (round_start p.schedule 0)) e.tick zero_place.1 is pos_k, index)))
       (λ (z : w.0 ≤ 0). from_end (x.0, x.1, omega (arith, x.2, begin)) (omega (arith, z)))

@@ -3,7 +3,7 @@ use Rattle.std.proofs.Common.{◌≡◌, ℕ, zero, suc, ◌+◌, ◌*◌, ◌<�
 use Rattle.std.specs.Prelude.{nat_eq, slice_index_or}
 use Rattle.std.specs.List.{AllByRecursion, flat_map}
 use Rattle.std.proofs.lemmas.Bool.{cases_lt, eqb-true, eq-eqb, and_parts}
-use Rattle.std.proofs.lemmas.List.{get_or_append_left, get_or-append-add}
+use Rattle.std.proofs.lemmas.List.{get_or_append_left, get_or-append-add, get_or-map, length-map}
 use Rattle.std.proofs.lemmas.Grind.{flat_map-append}
 use Rattle.sched_model.specs.Numbers.{below, natural}
 use Rattle.sched_model.specs.PlainMode.{hyper, task_at}
@@ -76,6 +76,28 @@ has_beacon nodes p j lj l =
     (has_left (flat_map (round_at p u) (below (length p.schedule.starts))) (by_node nodes p (due_start p u) task_starts u) x
     (has_flat (round_at p u) (length p.schedule.starts) j x lj
     (has_cond (nat_eq u u) x (x ∷ map (λ number. record { tick = u; action = slot j (place_from 0 p.mode.messages number) }) (slice_index_or p.schedule.tables j [])) (eq-eqb u u refl) (has_head x (map (λ number. record { tick = u; action = slot j (place_from 0 p.mode.messages number) }) (slice_index_or p.schedule.tables j [])))))))
+
+-- each slot of a round is in the cycle
+has_tail : (x y : Entry) (xs : List Entry) → Has xs y → Has (x ∷ xs) y
+has_tail x y xs h = (suc h.0, omega (arith, h.1), h.2)
+
+has_mapped : (f : ℕ → Entry) (xs : List ℕ) (x : ℕ) → Contains xs x → Has (map f xs) (f x)
+has_mapped f xs x c = (c.0, omega (arith, c.1, length-map xs f), get_or-map f xs c.0 x none c.1 ∙ ap f c.2)
+
+pub has_slot : (nodes : ℕ) (p : Plan) (j number : ℕ) → j < length p.schedule.starts → natural (round_start p.schedule j) < hyper p.mode → Contains (slice_index_or p.schedule.tables j []) number →
+    Has (cycle nodes p) (record { tick = natural (round_start p.schedule j); action = slot j (place_from 0 p.mode.messages number) })
+unfolding cycle
+has_slot nodes p j number lj l c =
+    let u = natural (round_start p.schedule j) in
+    let slot_of = λ (n : ℕ). let e : Entry = record { tick = u; action = slot j (place_from 0 p.mode.messages n) } in e in
+    let x = slot_of number in
+    let b : Entry = record { tick = u; action = beacon j } in
+    let table = slice_index_or p.schedule.tables j [] in
+    has_flat (at_tick nodes p) (hyper p.mode) u x l
+    (has_right (by_node nodes p (due_end p u) task_ends u) (flat_map (round_at p u) (below (length p.schedule.starts)) ++ by_node nodes p (due_start p u) task_starts u) x
+    (has_left (flat_map (round_at p u) (below (length p.schedule.starts))) (by_node nodes p (due_start p u) task_starts u) x
+    (has_flat (round_at p u) (length p.schedule.starts) j x lj
+    (has_cond (nat_eq u u) x (b ∷ map slot_of table) (eq-eqb u u refl) (has_tail b x (map slot_of table) (has_mapped slot_of table number c))))))
 
 -- ---- the order
 abbrev pub rank : Action → ℕ

@@ -18,11 +18,12 @@ use Rattle.runtime_model.specs.Packets.{packet}
 use Rattle.runtime_model.specs.History.{history, step_of, spot_next, entries, entry_at, last_spot, next_place, marks_of, turns, arrival, is_first_beacon, performed, finished_or_not, sent_or_not, start_or_not}
 use Rattle.runtime_model.specs.Script.{opens_round}
 use Rattle.runtime_model.specs.World.{schedule_counts, has_ended, own_calls, calls_of, beacon_place}
-use Rattle.runtime_model.specs.Laws.{AllRight, RequestsFit, HostsFollowEvents}
+use Rattle.runtime_model.specs.Laws.{RequestsFit, HostsFollowEvents}
 use Rattle.runtime_model.proofs.Cycles.{none, entry_right, RightAt}
 use Rattle.runtime_model.proofs.Once.{beacon_once}
 use Rattle.runtime_model.proofs.OutRegisters.{Is}
 use Rattle.runtime_model.proofs.Spots.{Same, Within, Opens, moves, stands}
+use Rattle.runtime_model.proofs.Modes.{AllRight, all_right}
 use Rattle.runtime_model.proofs.Beacons.{BeaconAt, Seen, Unseen, outcome_is, seen_entry, beacon_order, some_round, some, not_lower, not_unseen, index_now}
 use Rattle.runtime_model.proofs.Knowing.{arrival_mode, first_is}
 
@@ -126,14 +127,14 @@ settle y ds calls calls' ms ms' a b w =
 -- ---- one more Advance
 module _ (y : System) (right : AllRight y) where
   -- the entry is a beacon
-  seen_now : (es : List PlainEvent) (lost : ℕ) → opens_round (entry_at y (spot_next y (history y es))).action ≡ true → (g : Seen y (history y (advance lost ∷ es))) × (g.done ≡ step_of y (advance lost) (history y es))
-  seen_now es lost rings =
+  seen_now : (es : List PlainEvent) (rf : RequestsFit y es) (lost : ℕ) → opens_round (entry_at y (spot_next y (history y es))).action ≡ true → (g : Seen y (history y (advance lost ∷ es))) × (g.done ≡ step_of y (advance lost) (history y es))
+  seen_now es rf lost rings =
       let ds = history y es in
       let s = spot_next y ds in
       let e = entry_at y s in
       let d = step_of y (advance lost) ds in
       let is = outcome_is y (plan_at y s.hyper.mode) s lost ds e.tick e.action in
-      (record { done = d; is_last = cond-true (is_beacon d.out) (Some d) (last_beacon ds) (is ∙ rings); stay = refl; turn = refl; mode = refl; begin = refl; past = omega arith; inside = index_now y right es lost; is_beacon = rings; quiet = λ i a b. absurd (omega (arith, a, b)) }, refl)
+      (record { done = d; is_last = cond-true (is_beacon d.out) (Some d) (last_beacon ds) (is ∙ rings); stay = refl; turn = refl; mode = refl; begin = refl; past = omega arith; inside = index_now y right es rf lost; is_beacon = rings; quiet = λ i a b. absurd (omega (arith, a, b)) }, refl)
 
   -- it is none, in the same hyperperiod
   seen_still : (es : List PlainEvent) (lost : ℕ) → Same y (history y es) (spot_next y (history y es)) → opens_round (entry_at y (spot_next y (history y es))).action ≡ false → (h : Seen y (history y es)) → (g : Seen y (history y (advance lost ∷ es))) × (g.done ≡ h.done)
@@ -183,19 +184,19 @@ module _ (y : System) (right : AllRight y) where
   count_now es = counts_at y.plans (timeline_of (marks_of (history y es))).last.mode ∙ ap (λ z. length (plan_at y z).schedule.starts) (stands y es).alike.mode
 
   -- where no entry of the hyperperiod is left, the host is in the last round
-  over_is_last : (es : List PlainEvent) (s : CallState) → length (entries y (last_spot (history y es)).hyper.mode) ≤ next_place (history y es) → Where y (history y es) s (marks_of (history y es)) →
+  over_is_last : (es : List PlainEvent) (rf : RequestsFit y es) (s : CallState) → length (entries y (last_spot (history y es)).hyper.mode) ≤ next_place (history y es) → Where y (history y es) s (marks_of (history y es)) →
       (r : ℕ) × (r ≡ rounds_in (schedule_counts y) (timeline_of (marks_of (history y es))).last.mode) × Comes s (marks_of (history y es)) r true
-  over_is_last es s over at =
+  over_is_last es rf s over at =
       let md = (last_spot (history y es)).hyper.mode in
       let r = length (plan_at y md).schedule.starts in
-      let some_rounds = some_round y right es in
-      let last = beacon_place_of md (r - 1) (right es) (omega (arith, some_rounds)) in
+      let some_rounds = some_round y right es rf in
+      let last = beacon_place_of md (r - 1) (right es rf) (omega (arith, some_rounds)) in
       ⊎_elim
       (λ (q : (h : Seen y (history y es)) × (j : ℕ) × Is y md h.done.spot.index (natural (round_start (plan_at y md).schedule j)) (beacon j) × (beacon_place y h.done h.done.out ≡ j) × Comes s (marks_of (history y es)) (suc j) true).
-      let low = not_lower y right es q.0 q.1 (r - 1) last.0 q.2 last.1 (omega (arith, last.1.0, over)) in
+      let low = not_lower y right es rf q.0 q.1 (r - 1) last.0 q.2 last.1 (omega (arith, last.1.0, over)) in
       let here = (subst (λ (x : Entry). RightAt (plan_at y md) x.tick x.action) q.2.1 (entry_right y.nodes (plan_at y md) q.0.done.spot.index q.2.0).1) in
       (suc q.1, omega (arith, low, here.0, some_rounds, count_now es), q.4))
-      (λ (q : Unseen y (history y es) × Comes s (marks_of (history y es)) 1 false). absurd (not_unseen y right es q.0 last.0 (r - 1) (natural (round_start (plan_at y md).schedule (r - 1))) last.1 (omega (arith, last.1.0, over))))
+      (λ (q : Unseen y (history y es) × Comes s (marks_of (history y es)) 1 false). absurd (not_unseen y right es rf q.0 last.0 (r - 1) (natural (round_start (plan_at y md).schedule (r - 1))) last.1 (omega (arith, last.1.0, over))))
       at
     where
       beacon_place_of : (md j : ℕ) → Rattle.runtime_model.specs.Plans.RightPlan y.nodes (plan_at y md) → j < length (plan_at y md).schedule.starts → (i : ℕ) × Is y md i (natural (round_start (plan_at y md).schedule j)) (beacon j)
@@ -205,15 +206,15 @@ module _ (y : System) (right : AllRight y) where
   abbrev SeenAt : List Step → ℕ → Type 0
   SeenAt ds j = (h : Seen y ds) × Is y (last_spot ds).hyper.mode h.done.spot.index (natural (round_start (plan_at y (last_spot ds).hyper.mode).schedule j)) (beacon j) × (beacon_place y h.done h.done.out ≡ j)
 
-  seen_at : (es : List PlainEvent) (lost j : ℕ) → (entry_at y (spot_next y (history y es))).action ≡ beacon j → SeenAt (history y (advance lost ∷ es)) j
-  seen_at es lost j act =
+  seen_at : (es : List PlainEvent) (rf : RequestsFit y es) (lost j : ℕ) → (entry_at y (spot_next y (history y es))).action ≡ beacon j → SeenAt (history y (advance lost ∷ es)) j
+  seen_at es rf lost j act =
       let ds = history y es in
       let s = spot_next y ds in
       let e = entry_at y s in
       let p = plan_at y s.hyper.mode in
       let d = step_of y (advance lost) ds in
-      let g = seen_now es lost (ap opens_round act) in
-      let is : Is y s.hyper.mode s.index e.tick (beacon j) = (index_now y right es lost, ap (λ (z : Action). record { tick = e.tick; action = z }) act) in
+      let g = seen_now es rf lost (ap opens_round act) in
+      let is : Is y s.hyper.mode s.index e.tick (beacon j) = (index_now y right es rf lost, ap (λ (z : Action). record { tick = e.tick; action = z }) act) in
       let at = (subst (λ (x : Entry). RightAt p x.tick x.action) is.1 (entry_right y.nodes p s.index is.0).1) in
       let is' = subst (λ t. Is y s.hyper.mode s.index t (beacon j)) (sym at.1) is in
       let place = ap (λ (w : Action). beacon_place y d (performed y p s lost ds e.tick w)) act ∙ minus (first_round y.plans s.hyper.mode) j in
@@ -251,9 +252,9 @@ module _ (y : System) (right : AllRight y) where
   is_over m n l = grind (arith, l)
 
   -- an entry that is no beacon
-  quiet_step : (es : List PlainEvent) (lost : ℕ) → opens_round (entry_at y (spot_next y (history y es))).action ≡ false → After y (history y es) (calls_of y (history y es)) (marks_of (history y es)) →
+  quiet_step : (es : List PlainEvent) (rf : RequestsFit y es) (lost : ℕ) → opens_round (entry_at y (spot_next y (history y es))).action ≡ false → After y (history y es) (calls_of y (history y es)) (marks_of (history y es)) →
       After y (history y (advance lost ∷ es)) (calls_of y (history y (advance lost ∷ es))) (marks_of (history y (advance lost ∷ es)))
-  quiet_step es lost no_beacon w =
+  quiet_step es rf lost no_beacon w =
       let ds = history y es in
       let s = spot_next y ds in
       let e = entry_at y s in
@@ -262,7 +263,7 @@ module _ (y : System) (right : AllRight y) where
       let own = quiet_calls y d (plan_at y s.hyper.mode) s lost ds e.tick e.action no_beacon in
       let first = first_is e.action no_beacon in
       let turn = λ (over : length (entries y (last_spot ds).hyper.mode) ≤ next_place ds) (index : s.index ≡ 0).
-      let o = over_is_last es st over w.1 in
+      let o = over_is_last es rf st over w.1 in
       let c = end_last (schedule_counts y) st (marks_of ds) o.0 o.2 o.1 in
       step_lists es lost [] false true own first (is_over (next_place ds) (length (entries y (last_spot ds).hyper.mode)) over)
       ((o.2.inside, w.0), inr (unseen_anew es lost index no_beacon, c)) in
@@ -299,9 +300,9 @@ module _ (y : System) (right : AllRight y) where
       apart n j i e = grind (arith, e)
 
   -- an entry that is a beacon
-  beacon_step : (es : List PlainEvent) (lost j : ℕ) → (entry_at y (spot_next y (history y es))).action ≡ beacon j → After y (history y es) (calls_of y (history y es)) (marks_of (history y es)) →
+  beacon_step : (es : List PlainEvent) (rf : RequestsFit y es) (lost j : ℕ) → (entry_at y (spot_next y (history y es))).action ≡ beacon j → After y (history y es) (calls_of y (history y es)) (marks_of (history y es)) →
       After y (history y (advance lost ∷ es)) (calls_of y (history y (advance lost ∷ es))) (marks_of (history y (advance lost ∷ es)))
-  beacon_step es lost j act w =
+  beacon_step es rf lost j act w =
       let ds = history y es in
       let s = spot_next y ds in
       let md = s.hyper.mode in
@@ -309,17 +310,17 @@ module _ (y : System) (right : AllRight y) where
       let e = entry_at y s in
       let rounds = schedule_counts y in
       let st = call_state rounds (calls_of y ds) in
-      let ok = right (advance lost ∷ es) in
+      let ok = right (advance lost ∷ es) rf in
       let len = length (entries y (last_spot ds).hyper.mode) in
-      let g = seen_at es lost j act in
-      let is : Is y md s.index e.tick (beacon j) = (index_now y right es lost, ap (λ (z : Action). record { tick = e.tick; action = z }) act) in
+      let g = seen_at es rf lost j act in
+      let is : Is y md s.index e.tick (beacon j) = (index_now y right es rf lost, ap (λ (z : Action). record { tick = e.tick; action = z }) act) in
       let at = (subst (λ (x : Entry). RightAt p x.tick x.action) is.1 (entry_right y.nodes p s.index is.0).1) in
       let origin = beacon_place_in md 0 ok (omega (arith, at.0)) in
       let first = λ (z : j ≡ 0). ap is_first_beacon act ∙ ap (λ (k : ℕ). is_first_beacon (beacon k)) z in
       let seen_first = λ (z : j ≡ 0) (c : CallState) (ms : List Mark) (come : Comes c ms 1 true). let come' = subst (λ (k : ℕ). Comes c ms k true) (let q : 1 ≡ suc j = omega (arith, z) in q) come in come' in
       let turn = λ (over : len ≤ next_place ds) (index : s.index ≡ 0).
       let z : j ≡ 0 = not_after origin.0 s.index j (beacon_order y md ok origin.0 0 s.index j (natural (round_start p.schedule 0)) e.tick origin.1 is) (omega (arith, index)) in
-      let o = over_is_last es st over w.1 in
+      let o = over_is_last es rf st over w.1 in
       let c = end_last rounds st (marks_of ds) o.0 o.2 o.1 in
       let b = first_beacon rounds (call_step rounds end_round_call st) (ended ∷ marks_of ds) c in
       step_lists es lost (next_beacon_call ∷ []) true true (own_first es lost j act z) (first z) (is_over (next_place ds) len over)
@@ -330,7 +331,7 @@ module _ (y : System) (right : AllRight y) where
       let is' : Is y (last_spot ds).hyper.mode s.index e.tick (beacon j) = subst (λ (z : ℕ). Is y z s.index e.tick (beacon j)) mode is in
       ⊎_elim
       (λ (q : (h : Seen y ds) × (k : ℕ) × Is y (last_spot ds).hyper.mode h.done.spot.index (natural (round_start (plan_at y (last_spot ds).hyper.mode).schedule k)) (beacon k) × (beacon_place y h.done h.done.out ≡ k) × Comes st (marks_of ds) (suc k) true).
-      let next = follows_seen es (right es) q.0 q.1 q.2 s.index e.tick j is' m.index in
+      let next = follows_seen es rf (right es rf) q.0 q.1 q.2 s.index e.tick j is' m.index in
       let later : j ≡ suc q.1 = sym next in
       let room : suc q.1 < rounds_in rounds (timeline_of (marks_of ds)).last.mode = omega (arith, next, at.0, count_now es, ap (λ z. length (plan_at y z).schedule.starts) mode) in
       let c = end_other rounds st (marks_of ds) (suc q.1) q.4 room in
@@ -340,7 +341,7 @@ module _ (y : System) (right : AllRight y) where
       ((c.inside, (q.4.inside, w.0)), inl (g.0, j, g.1, g.2, b')))
       (λ (q : Unseen y ds × Comes st (marks_of ds) 1 false).
       let origin' = subst (λ (z : ℕ). Is y z origin.0 (natural (round_start p.schedule 0)) (beacon 0)) mode origin.1 in
-      let z : j ≡ 0 = not_later j (λ later. not_unseen y right es q.0 origin.0 0 (natural (round_start p.schedule 0)) origin' (omega (arith, beacon_order y md ok origin.0 0 s.index j (natural (round_start p.schedule 0)) e.tick origin.1 is later, m.index))) in
+      let z : j ≡ 0 = not_later j (λ later. not_unseen y right es rf q.0 origin.0 0 (natural (round_start p.schedule 0)) origin' (omega (arith, beacon_order y md ok origin.0 0 s.index j (natural (round_start p.schedule 0)) e.tick origin.1 is later, m.index))) in
       let b = first_beacon rounds st (marks_of ds) q.1 in
       step_lists es lost (next_beacon_call ∷ []) true false (own_first es lost j act z) (first z) (goes_on (next_place ds) len m.inside)
       ((q.1.inside, w.0), inl (g.0, j, g.1, g.2, seen_first z (call_step rounds next_beacon_call st) (begins ∷ marks_of ds) b)))
@@ -358,10 +359,10 @@ module _ (y : System) (right : AllRight y) where
       not_later j f = ⊎_elim (λ (later : 0 < j). absurd (f later)) (λ (z : j ≤ 0). omega (arith, z)) (cases_lt 0 j)
 
       -- the next beacon of a hyperperiod is that of the next round
-      follows_seen : (es : List PlainEvent) → Rattle.runtime_model.specs.Plans.RightPlan y.nodes (plan_at y (last_spot (history y es)).hyper.mode) → (h : Seen y (history y es)) (k : ℕ) →
+      follows_seen : (es : List PlainEvent) (rf : RequestsFit y es) → Rattle.runtime_model.specs.Plans.RightPlan y.nodes (plan_at y (last_spot (history y es)).hyper.mode) → (h : Seen y (history y es)) (k : ℕ) →
           Is y (last_spot (history y es)).hyper.mode h.done.spot.index (natural (round_start (plan_at y (last_spot (history y es)).hyper.mode).schedule k)) (beacon k) →
           (i t j : ℕ) → Is y (last_spot (history y es)).hyper.mode i t (beacon j) → i ≡ next_place (history y es) → suc k ≡ j
-      follows_seen es ok h k at i t j is now =
+      follows_seen es rf ok h k at i t j is now =
           let md = (last_spot (history y es)).hyper.mode in
           let p = plan_at y md in
           let here = (subst (λ (x : Entry). RightAt p x.tick x.action) is.1 (entry_right y.nodes p i is.0).1) in
@@ -369,7 +370,7 @@ module _ (y : System) (right : AllRight y) where
           (λ (less : k < j).
           let before = beacon_place_in md (j - 1) ok (omega (arith, here.0)) in
           let sooner = beacon_order y md ok before.0 (j - 1) i j (natural (round_start p.schedule (j - 1))) t before.1 is (omega (arith, less)) in
-          let low = not_lower y right es h k (j - 1) before.0 at before.1 (omega (arith, sooner, now)) in
+          let low = not_lower y right es rf h k (j - 1) before.0 at before.1 (omega (arith, sooner, now)) in
           omega (arith, less, low))
           (λ (le : j ≤ k). ⊎_elim
           (λ (less : j < k). absurd (omega (arith, beacon_order y md ok i j h.done.spot.index k t (natural (round_start p.schedule k)) is at less, h.past, now)))
@@ -412,15 +413,15 @@ module _ (y : System) (right : AllRight y) where
   after (advance lost ∷ es) f =
       let e = entry_at y (spot_next y (history y es)) in
       ⊎_elim
-      (λ (rings : opens_round e.action ≡ true). let q = seen_entry e.action rings in beacon_step es lost q.0 q.1 (after es f))
-      (λ (quiet : opens_round e.action ≡ false). quiet_step es lost quiet (after es f))
+      (λ (rings : opens_round e.action ≡ true). let q = seen_entry e.action rings in beacon_step es f lost q.0 q.1 (after es f))
+      (λ (quiet : opens_round e.action ≡ false). quiet_step es f lost quiet (after es f))
       (cases_Bool (opens_round e.action))
 
 pub hosts_follow_events : HostsFollowEvents
 hosts_follow_events y right es f =
     let ds = history y es in
     let st = call_state (schedule_counts y) (calls_of y ds) in
-    let w = after y right es f in
+    let w = after y (all_right y right) es f in
     ⊎_elim
     (λ (q : (h : Seen y ds) × (j : ℕ) × Is y (last_spot ds).hyper.mode h.done.spot.index (natural (round_start (plan_at y (last_spot ds).hyper.mode).schedule j)) (beacon j) × (beacon_place y h.done h.done.out ≡ j) × Comes st (marks_of ds) (suc j) true).
     record {

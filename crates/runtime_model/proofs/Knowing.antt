@@ -13,6 +13,7 @@ use Rattle.runtime_model.proofs.Cycles.{none}
 use Rattle.runtime_model.proofs.Spots.{Same, Within, Opens, moves, stands}
 use Rattle.runtime_model.proofs.Beacons.{outcome_is, seen_entry}
 use Rattle.runtime_model.specs.Script.{opens_round}
+use Rattle.runtime_model.specs.Laws.{SettledNodesKnow}
 
 -- a phase that names the mode itself is steady
 abbrev pub NamesOther : Hyperperiod → Type 0
@@ -129,8 +130,8 @@ settled_steady y v (advance lost ∷ es) e =
     let ds = history y es in
     let d = step_of y (advance lost) ds in
     ⊎_elim
-    (λ (opens_round : is_beacon d.out ≡ true). quiet_is_steady y ds lost opens_round (calm (restarts v d.out) (is_beacon d.out) (hears v d.out) (announces d) (settled v ds) opens_round e))
-    (λ (opens_round : is_beacon d.out ≡ false). steady_next y es lost opens_round (settled_steady y v es (still (restarts v d.out) (is_beacon d.out) (hears v d.out && not (announces d)) (settled v ds) opens_round e)))
+    (λ (rings : is_beacon d.out ≡ true). quiet_is_steady y ds lost rings (calm (restarts v d.out) (is_beacon d.out) (hears v d.out) (announces d) (settled v ds) rings e))
+    (λ (rings : is_beacon d.out ≡ false). steady_next y es lost rings (settled_steady y v es (still (restarts v d.out) (is_beacon d.out) (hears v d.out && not (announces d)) (settled v ds) rings e)))
     (cases_Bool (is_beacon d.out))
   where
     calm : (r b h a x : Bool) → b ≡ true → cond r false (cond b (h && not a) x) ≡ true → a ≡ false
@@ -158,3 +159,6 @@ next_is_plain y v es e =
     (λ (m : Within y ds s). (m.stay, m.mode, inr m.opening))
     (λ (m : Opens y ds s). absurd (let q : true ≡ false = sym m.before ∙ calm in cc)) r)
     (moves y ds (stands y es))
+
+pub settled_nodes_know : SettledNodesKnow
+settled_nodes_know y v es e = let p = next_is_plain y v es e in (settled_steady y v es e, p.0, p.1, p.2)

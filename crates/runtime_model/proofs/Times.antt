@@ -197,6 +197,26 @@ module _ (nodes : ℕ) (p : Plan) (ok : RightPlan nodes p) where
         released = λ d. omega (arith, ints, drained n opening phase r d (calm d) pl, whole, times);
       }
 
+  -- the window in which a round instance lies is that of its slot
+  pub window_is : (n k j i : ℕ) → Carried p j i → (opens p.schedule i +ℤ pos (k * (message_at p.mode i).period)) ≤ℤ (round_start p.schedule j +ℤ pos (n * hyper p.mode)) →
+      (round_start p.schedule j +ℤ pos (n * hyper p.mode) +ℤ pos p.mode.round) ≤ℤ (closes p.schedule i +ℤ pos (k * (message_at p.mode i).period)) →
+      ((pos (n * hyper p.mode) +ℤ release p j i) ≡ pos (k * (message_at p.mode i).period)) × (window_at p n j i ≡ k)
+  window_is n k j i c low high =
+      let per = (message_at p.mode i).period in
+      let rel = is_release j i c in
+      let q = rel.multiple.0 in
+      let m = message_turns i c.1 in
+      let w = hyper p.mode / per in
+      let nh : n * hyper p.mode ≡ n * w * per = omega (arith, ap (λ z. n * z) m.1) in
+      let y = q +ℤ pos (n * w) in
+      let sum = sum-times q (pos (n * w)) (pos per) in
+      let thin = narrow i c.1 in
+      let above : pos k ≤ℤ y = at_most_from_times (pos k) y per (omega (arith, ints, low, rel.closes_after, rel.multiple.1, thin, ok.valid.round, nh, sum, sum-times y (pos 1) (pos per))) in
+      let below_it : y ≤ℤ pos k = at_most_from_times y (pos k) per (omega (arith, ints, high, rel.opens_before, rel.multiple.1, thin, ok.valid.round, nh, sum, sum-times (pos k) (pos 1) (pos per))) in
+      let is : y ≡ pos k = same_in _ _ (omega (arith, ints, above, below_it)) in
+      let whole : (pos (n * hyper p.mode) +ℤ release p j i) ≡ pos (k * per) = same_in _ _ (omega (arith, ints, rel.multiple.1, sum, nh, ap (λ (z : ℤ). z *ℤ pos per) is)) in
+      (whole, ap (λ z. natural z / per) whole ∙ exact k per m.0)
+
 -- the place of a message's number
 place_step : (n : ℕ) (m : PlainMessage) (ms : List PlainMessage) (number : ℕ) →
     ((i : ℕ) → i < length ms → (get_or ms i no_message).number ≡ number → (k : ℕ) × (place_from (suc n) ms number ≡ suc n + k) × (k < length ms) × ((get_or ms k no_message).number ≡ number)) →
@@ -206,7 +226,7 @@ place_step n m ms number more true h i l e = (0, omega arith, omega arith, eqb-t
 place_step n m ms number more false h zero l e = absurd (eqb-false m.number number h e)
 place_step n m ms number more false h (suc i) l e = let r = more i (omega (arith, l)) e in (suc r.0, omega (arith, r.1), omega (arith, r.2), r.3)
 
-place_is : (n : ℕ) (ms : List PlainMessage) (number i : ℕ) → i < length ms → (get_or ms i no_message).number ≡ number →
+pub place_is : (n : ℕ) (ms : List PlainMessage) (number i : ℕ) → i < length ms → (get_or ms i no_message).number ≡ number →
     (k : ℕ) × (place_from n ms number ≡ n + k) × (k < length ms) × ((get_or ms k no_message).number ≡ number)
 place_is n [] number i l e = absurd (omega (arith, l))
 place_is n (m ∷ ms) number i l e = place_step n m ms number (place_is (suc n) ms number) (nat_eq m.number number) refl i l e

@@ -1,12 +1,12 @@
 -- Laws of the runtime, over every list of events
-use Rattle.std.specs.Prelude.{◌≡◌, ℕ, suc, ◌+◌, ◌*◌, ◌<◌, ◌≤◌, ◌↔◌, true, false, List, [], ◌∷◌, length, Contains, Option, Some, None, ℤ}
+use Rattle.std.specs.Prelude.{◌≡◌, ℕ, suc, ◌+◌, ◌*◌, ◌<◌, ◌≤◌, ◌↔◌, ◌⊎◌, true, false, List, [], ◌∷◌, length, Contains, Option, Some, None, ℤ}
 use Rattle.sched_model.specs.PlainMode.{hyper, task_at, message_at}
-use Rattle.runtime_model.specs.Timeline.{drains}
+use Rattle.runtime_model.specs.Timeline.{steady, drains}
 use Rattle.runtime_model.specs.HostCalls.{HostCall, AllMay, call_state, host_after, after_call}
 use Rattle.runtime_model.specs.Plans.{Plan, RightPlan, Carried, node_of, offset}
 use Rattle.runtime_model.specs.Entries.{slot, task_starts}
 use Rattle.runtime_model.specs.Placement.{release, IsRelease, placed, own_slot, own_start, window_at, run_at}
-use Rattle.runtime_model.specs.Outcomes.{PlainEvent, advance, request, Outcome, Step, is_beacon, took, sent, started}
+use Rattle.runtime_model.specs.Outcomes.{PlainEvent, advance, request, restart, Outcome, Step, is_beacon, took, sent, started}
 use Rattle.runtime_model.specs.LookingBack.{LookedBack, synced, settled, coasts, recall, last_beacon}
 use Rattle.runtime_model.specs.System.{System, plan_at}
 use Rattle.runtime_model.specs.Packets.{held}
@@ -43,14 +43,21 @@ InputsHold = (y : System) (es : List PlainEvent) (b i : ℕ) →
     placed s.hyper.opening s.hyper.phase (own_start p (entry_at y s).tick b) ≡ true →
     recall (node_of p b) s.stay (took (node_of p b) i (run_at p s.turn (entry_at y s).tick b)) ds ≡ values_of (in_register p s.stay b i ds)
 
--- every mode that runs has a right plan
-abbrev pub AllRight : System → Type 0
-AllRight y = (es : List PlainEvent) → RightPlan y.nodes (plan_at y (last_spot (history y es)).hyper.mode)
+-- there is a mode, and each one has a right plan
+abbrev pub PlansAreRight : System → Type 0
+PlansAreRight y = (1 ≤ length y.plans) × ((mode : ℕ) → mode < length y.plans → RightPlan y.nodes (plan_at y mode))
+
+-- each request of these events names a mode of the system
+abbrev pub RequestsFit : System → List PlainEvent → Type 0
+RequestsFit y [] = Unit {0}
+RequestsFit y (request m ∷ es) = (m < length y.plans) × RequestsFit y es
+RequestsFit y (restart v ∷ es) = RequestsFit y es
+RequestsFit y (advance lost ∷ es) = RequestsFit y es
 
 -- the ticks of consecutive beacons differ by at most the greatest gap, across a switch too
 abbrev pub BeaconGap : Type 0
-BeaconGap = (y : System) → AllRight y →
-    (es : List PlainEvent) (lost : ℕ) (g : Step) → is_beacon (step_of y (advance lost) (history y es)).out ≡ true → last_beacon (history y es) ≡ Some g →
+BeaconGap = (y : System) → PlansAreRight y →
+    (es : List PlainEvent) (lost : ℕ) (g : Step) → RequestsFit y es → is_beacon (step_of y (advance lost) (history y es)).out ≡ true → last_beacon (history y es) ≡ Some g →
     moment y (step_of y (advance lost) (history y es)) ≤ moment y g + (plan_at y g.spot.hyper.mode).mode.gap
 
 -- A run that starts in a hyperperiod of a stay ends at the latest one tick before the end of each hyperperiod n of the stay that can be the draining one:
@@ -72,12 +79,6 @@ abbrev pub SendersAreSynced : Type 0
 SendersAreSynced = (y : System) (es : List PlainEvent) (e : PlainEvent) (v i k : ℕ) (xs : List ℤ) (ts : List ℕ) →
     outcome_of y es e ≡ sent v i k xs ts → synced v (history y es) ≡ true
 
--- each request of these events names a mode of the system
-abbrev pub RequestsFit : System → List PlainEvent → Type 0
-RequestsFit y [] = Unit {0}
-RequestsFit y (request m ∷ es) = (m < length y.plans) × RequestsFit y es
-RequestsFit y (e ∷ es) = RequestsFit y es
-
 -- The calls that events make of a host meet their conditions, and its timeline is that of the events.
 -- While it is in a round, that is the round of the last beacon; else the next round is the first
 pub record HostFollows (y : System) (ds : List Step) : Type 0 where
@@ -88,7 +89,7 @@ pub record HostFollows (y : System) (ds : List Step) : Type 0 where
   pub outside : (call_state (schedule_counts y) (calls_of y ds)).inside ≡ false → (call_state (schedule_counts y) (calls_of y ds)).round ≡ 1
 
 abbrev pub HostsFollowEvents : Type 0
-HostsFollowEvents = (y : System) → AllRight y → (es : List PlainEvent) → RequestsFit y es → HostFollows y (history y es)
+HostsFollowEvents = (y : System) → PlansAreRight y → (es : List PlainEvent) → RequestsFit y es → HostFollows y (history y es)
 
 -- a look back finds x exactly where some step gave it, no later one gave anything, and the node is unbroken since
 abbrev pub RecallLooksBack : Type 0 → Type 0
@@ -99,3 +100,27 @@ abbrev pub OneRunAtATime : Type 0
 OneRunAtATime = (y : System) (es : List PlainEvent) (lost v b k : ℕ) (ins : List (Option ℤ)) (x : ℤ) →
     let s = spot_next y (history y es) in
     RightPlan y.nodes (plan_at y s.hyper.mode) → (step_of y (advance lost) (history y es)).out ≡ started v b k ins x → running v s.stay (history y es) ≡ None
+
+-- a node that heard the last beacon, which announced no change, is in a steady hyperperiod; the next Advance stands in the same stay and mode,
+-- in the same hyperperiod or in one that does not open
+abbrev pub SettledNodesKnow : Type 0
+SettledNodesKnow = (y : System) (v : ℕ) (es : List PlainEvent) → settled v (history y es) ≡ true →
+    let l = last_spot (history y es) in
+    let s = spot_next y (history y es) in
+    (l.hyper.phase ≡ steady) × (s.stay ≡ l.stay) × (s.hyper.mode ≡ l.hyper.mode) × ((s.turn ≡ l.turn) ⊎ (s.hyper.opening ≡ false))
+
+-- nothing is lost and nobody restarts in these events
+abbrev pub Lossless : List PlainEvent → Type 0
+Lossless [] = Unit {0}
+Lossless (advance lost ∷ es) = (lost ≡ 0) × Lossless es
+Lossless (request m ∷ es) = Lossless es
+Lossless (restart v ∷ es) = ⊥
+
+-- where nothing is lost and nobody restarts, at each start of run k that is performed the packets of window k were taken of all messages
+-- that the task consumes: by the definition of inputs, each of them is there
+abbrev pub NothingIsMissing : Type 0
+NothingIsMissing = (y : System) → PlansAreRight y → (es : List PlainEvent) (lost v b k : ℕ) (ins : List (Option ℤ)) (x : ℤ) → RequestsFit y es → Lossless (advance lost ∷ es) →
+    (step_of y (advance lost) (history y es)).out ≡ started v b k ins x →
+    let s = spot_next y (history y es) in
+    let p = plan_at y s.hyper.mode in
+    (i : ℕ) → i < length p.mode.messages → Contains (message_at p.mode i).to b → (xs : List ℤ) × (recall v s.stay (took v i k) (history y es) ≡ Some xs)

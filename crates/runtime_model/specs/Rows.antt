@@ -12,6 +12,7 @@ use Rattle.runtime_model.specs.History.{history}
 use Rattle.runtime_model.specs.Script.{ScriptLine, go, lose, asks, restarts_node, until_beacon, told}
 use Rattle.runtime_model.specs.World.{schedule_counts, calls_of}
 use Rattle.runtime_model.specs.NodeTables.{part_of}
+use Rattle.runtime_model.specs.Laws.{PlansAreRight}
 
 -- ---- the systems
 
@@ -57,6 +58,10 @@ two = record { nodes = 3; host = 0; plans = loop_plan ∷ single_plan 2 3 2 ∷ 
 -- two modes of one task each, both on node 1
 abbrev pub pair : System
 pair = record { nodes = 2; host = 0; plans = single_plan 1 0 1 ∷ single_plan 1 1 1 ∷ []; bodies = tally ∷ []; body_of = λ a. 0 }
+
+-- the plans of `pair` are right: what the laws suppose can be met
+abbrev pub PairIsRight : Type 0
+PairIsRight = PlansAreRight pair
 
 -- ---- events and lines
 

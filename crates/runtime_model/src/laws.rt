@@ -1,7 +1,7 @@
 //! Laws of the runtime. Each holds for every list of events, or of calls.
 
 ghost use Rattle.std.specs.Prelude.{List, ℤ};
-ghost use Rattle.runtime_model.specs.Laws.{BeaconGap, HostsFollowEvents, HostsKeepTime, InputsHold, KindsFollow, OneRunAtATime, RecallLooksBack, RegistersHold, ReleasesFit, RunsEndBeforeSwitch, SendersAreSynced};
+ghost use Rattle.runtime_model.specs.Laws.{BeaconGap, HostsFollowEvents, HostsKeepTime, InputsHold, KindsFollow, NothingIsMissing, OneRunAtATime, RecallLooksBack, RegistersHold, ReleasesFit, RunsEndBeforeSwitch, SendersAreSynced, SettledNodesKnow};
 
 /// A host that stands for a list of its calls stands for the list with one more, whose condition holds.
 pub fn hosts_keep_time()
@@ -57,4 +57,14 @@ pub fn senders_are_synced()
 /// No node has two runs in progress at once, across a switch too.
 pub fn one_run_at_a_time()
     ensures { OneRunAtATime }
+{}
+
+/// A node that heard the last beacon, with no change announced, knows that its hyperperiod is steady, and where the next one is.
+pub fn settled_nodes_know()
+    ensures { SettledNodesKnow }
+{}
+
+/// Where nothing is lost and nobody restarts, every run that is started has all its inputs.
+pub fn nothing_is_missing()
+    ensures { NothingIsMissing }
 {}

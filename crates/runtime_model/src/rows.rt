@@ -1,6 +1,6 @@
 //! Worked rows: what scripts do in small systems, computed from the definitions alone.
 
-ghost use Rattle.runtime_model.specs.Rows.{LatestRequest, LatestRequestExchanged, LostBeacon, MissedWarning, ModeChange, ModeChangeHost, NodePart, RestartAfterBeacon, RestartBeforeBeacon};
+ghost use Rattle.runtime_model.specs.Rows.{LatestRequest, LatestRequestExchanged, LostBeacon, MissedWarning, ModeChange, ModeChangeHost, NodePart, PairIsRight, RestartAfterBeacon, RestartBeforeBeacon};
 
 /// A node that misses a round's beacon does not send in it.
 pub fn lost_beacon()
@@ -33,4 +33,9 @@ pub fn latest_request_counts()
 /// What a node keeps of the plans.
 pub fn node_part()
     ensures { NodePart }
+{}
+
+/// Two modes of one task each have right plans, so the laws speak of some system.
+pub fn pair_is_right()
+    ensures { PairIsRight }
 {}

@@ -1,4 +1,4 @@
-use Rattle.std.proofs.Common.{◌≡◌, ap, sym, List, ℕ, map}
+use Rattle.std.proofs.Common.{ap, sym, List, ℕ, map}
 use Rattle.std.proofs.lemmas.Result.{on_err_weaker}
 use Rattle.proof_tree.specs.Items.{ModeNamed, line_of, text_of}
 use Rattle.proof_tree.specs.PlanText.{refuted_items}

@@ -1,4 +1,4 @@
-use Rattle.std.proofs.Common.{◌≡◌, arith, rules, refl, ap, ◌∙◌, ℕ, List, ◌∷◌, [], length, get_or, ◌<◌}
+use Rattle.std.proofs.Common.{refl, ap, length}
 use Rattle.std.specs.List.{zip}
 use Rattle.std.proofs.lemmas.List.{length_push}
 use Rattle.std.proofs.lemmas.Iterator.{YieldsList-from_slice, YieldsList-from_zip}

@@ -1,8 +1,7 @@
 use Rattle.std.proofs.Common.{◌≡◌, ◌++◌, length, take, map}
-use Rattle.std.specs.List.{flat_map, zip, enumerate_from}
-use Rattle.proof_tree.specs.Items.{line_of, text_of}
-use Rattle.proof_tree.specs.Names.{messages_in}
-use Rattle.proof_tree.specs.PlanText.{message_item, table_item, refuted_items, part_items}
+use Rattle.std.specs.List.{flat_map, zip}
+use Rattle.proof_tree.specs.Items.{text_of}
+use Rattle.proof_tree.specs.PlanText.{part_items}
 use Rattle.proof_tree.proofs.document.write_parts.Given as goal
 
 abbrev pub invariant-loop-mode : goal.invariant-loop-mode

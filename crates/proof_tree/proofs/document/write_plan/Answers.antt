@@ -1,4 +1,4 @@
-use Rattle.std.proofs.Common.{◌≡◌, ap, sym, refl, List, ℕ, map}
+use Rattle.std.proofs.Common.{ap, sym, List, map}
 use Rattle.std.specs.List.{flat_map, zip}
 use Rattle.std.proofs.lemmas.Result.{on_err_weaker}
 use Rattle.app_graph.specs.declared.mode_set.Mode.{Mode}

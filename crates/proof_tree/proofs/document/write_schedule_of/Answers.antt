@@ -1,6 +1,6 @@
 use Rattle.std.proofs.Common.{◌≡◌, ap, sym, ◌∙◌, List, ℕ, ℤ, length, map}
 use Rattle.std.specs.Prelude.{codes}
-use Rattle.std.specs.List.{flat_map, zip, enumerate_from}
+use Rattle.std.specs.List.{zip, enumerate_from}
 use Rattle.std.proofs.lemmas.Result.{on_err_weaker}
 use Rattle.app_graph.specs.declared.mode_set.App.{App}
 use Rattle.proof_tree.specs.Items.{ScheduleOf, line, line_of, text_of}

@@ -1,4 +1,4 @@
-use Rattle.std.proofs.Common.{◌≡◌, arith, rules, refl, ap, ◌∙◌, ℕ, ℤ, List, ◌∷◌, [], length, get_or, ◌<◌}
+use Rattle.std.proofs.Common.{◌≡◌, rules, refl, ap, length}
 use Rattle.std.specs.Prelude.{unsigned_abs}
 use Rattle.std.specs.List.{zip}
 use Rattle.std.proofs.lemmas.List.{length_push}
@@ -6,7 +6,6 @@ use Rattle.std.proofs.lemmas.Iterator.{YieldsList-from_slice, YieldsList-from_zi
 use Rattle.std.proofs.lemmas.Iterator.Adapters.{YieldsList-from_flat_map}
 use Rattle.std.proofs.lemmas.Iterator.Consumers.{YieldsList-turn, YieldsList-end}
 use Rattle.app_graph.specs.declared.mode_set.App.{App}
-use Rattle.app_graph.specs.declared.mode_set.Task.{Task}
 use Rattle.proof_tree.specs.Items.{line_of}
 use Rattle.proof_tree.specs.Names.{tasks_in}
 use Rattle.proof_tree.specs.PlanText.{task_item}

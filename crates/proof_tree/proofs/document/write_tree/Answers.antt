@@ -1,4 +1,4 @@
-use Rattle.std.proofs.Common.{arith, refl, ap, ℕ, length}
+use Rattle.std.proofs.Common.{arith, ap, ℕ, length}
 use Rattle.sched_model.specs.declared.trees.TreeNode.TheVariants.{Branch}
 use Rattle.proof_tree.specs.Items.{line_of}
 use Rattle.proof_tree.specs.PlanText.{stored_item}

@@ -1,9 +1,8 @@
-use Rattle.std.proofs.Common.{◌≡◌, arith, refl, ap, ◌∙◌, ℕ, ◌+◌, List, length}
+use Rattle.std.proofs.Common.{arith, refl, ap, ◌+◌}
 use Rattle.std.specs.List.{enumerate_from}
 use Rattle.std.proofs.lemmas.List.FromFn.{length-enumerate_from}
-use Rattle.proof_tree.specs.Items.{TableOf, line_of, text_of}
-use Rattle.proof_tree.specs.Names.{messages_in, name_of}
-use Rattle.proof_tree.specs.PlanText.{table_item, refuted_items}
+use Rattle.proof_tree.specs.Items.{text_of}
+use Rattle.proof_tree.specs.PlanText.{refuted_items}
 use Rattle.proof_tree.proofs.WrittenLemmas.{on_err, goes_on_in_loop, ends_loop, stops_in_loop}
 use Rattle.proof_tree.proofs.DocumentLemmas.{at_place}
 use Rattle.proof_tree.proofs.document.write_trees.Goals as goal

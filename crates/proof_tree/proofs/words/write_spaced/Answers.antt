@@ -1,5 +1,4 @@
-use Rattle.proof_tree.specs.WordSpelling.{spelling_of}
-use Rattle.proof_tree.proofs.WrittenLemmas.{on_err, stops_before, stops_in_second}
+use Rattle.proof_tree.proofs.WrittenLemmas.{on_err, stops_before}
 use Rattle.proof_tree.proofs.words.write_spaced.Goals as goal
 
 pub returns-in_err-put-clause-err : goal.returns-in_err-put-clause-err

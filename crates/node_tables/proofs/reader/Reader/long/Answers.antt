@@ -1,7 +1,6 @@
-use Rattle.std.proofs.Common.{◌≡◌, ◌+◌, ◌≤◌, ◌&&◌, ℕ, List, int_le, true, false, length, take, drop, sym, ap, ◌∙◌, arith, rules, FitsSigned, w64, to_z-of_z}
+use Rattle.std.proofs.Common.{◌≡◌, ◌≤◌, ◌&&◌, ℕ, List, int_le, length, take, drop, sym, ap, ◌∙◌, rules, FitsSigned, w64, to_z-of_z}
 use Rattle.std.proofs.lemmas.List.{take_rest}
 use Rattle.std.specs.Int.{from_be_bytes, cast_signed}
-use Rattle.node_tables.specs.Reading as reads
 use Rattle.node_tables.proofs.FieldLemmas.{field_ok, field_out}
 use Rattle.node_tables.proofs.reader.Reader.long.Goals as goal
 
