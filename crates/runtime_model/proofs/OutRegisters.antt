@@ -16,7 +16,7 @@ use Rattle.runtime_model.specs.Plans.{Plan, offset, node_of}
 use Rattle.runtime_model.specs.Registers.{last_end}
 use Rattle.runtime_model.specs.System.{System, plan_at, body_at, state}
 use Rattle.runtime_model.specs.Timeline.{drains}
-use Rattle.sched_model.proofs.Hyper.{hyper_some}
+use Rattle.sched_model.proofs.Hyperperiods.{hyper_some}
 use Rattle.runtime_model.proofs.Instances.{same_class, more_turns}
 use Rattle.runtime_model.proofs.Cycles.{Has, none, has_start, has_end, entry_right, key_order, rank, key}
 use Rattle.runtime_model.proofs.Spots.{Same, Within, Opens, Moves, moves, stands}

@@ -6,7 +6,7 @@ use Rattle.std.proofs.Math.Nat.{mul-le-mul_right}
 use Rattle.sched_model.specs.Numbers.{natural}
 use Rattle.sched_model.specs.PlainMode.{hyper, task_at}
 use Rattle.sched_model.specs.Rounds.{round_start}
-use Rattle.sched_model.proofs.Hyper.{hyper_some}
+use Rattle.sched_model.proofs.Hyperperiods.{hyper_some}
 use Rattle.runtime_model.specs.Timeline.{PlainPhase, drains}
 use Rattle.runtime_model.specs.Plans.{Plan, node_of, offset}
 use Rattle.runtime_model.specs.Entries.{Action, task_ends, beacon, slot, task_starts}

@@ -13,7 +13,7 @@ use Rattle.tick_num.proofs.Floor.{floor_low, floor_high, sum-times}
 use Rattle.sched_model.proofs.Graph.{edge_message, message_edge, never_late, contains_has}
 use Rattle.runtime_model.proofs.TaskTimes.{TaskFits}
 use Rattle.runtime_model.proofs.Cycles.{RightAt}
-use Rattle.sched_model.proofs.Hyper.{period_divides, hyper_some}
+use Rattle.sched_model.proofs.Hyperperiods.{period_divides, hyper_some}
 use Rattle.std.specs.Prelude.{nat_eq, cond, not, neg_ℤ}
 use Rattle.sched_model.specs.Numbers.{has, natural}
 use Rattle.sched_model.specs.PlainMode.{hyper, most_rounds, task_at, message_at, PlainMessage, no_message}
