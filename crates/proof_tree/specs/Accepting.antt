@@ -22,6 +22,7 @@ pub record DocMode : Type 0 where
   pub messages : List (List ℕ)
   pub mode : PlainMode
 
+-- a mode of the set
 abbrev pub doc_mode : ModeSet → Mode → DocMode
 doc_mode set mode = record {
   name = mode.name;
@@ -30,6 +31,7 @@ doc_mode set mode = record {
   mode = plain_mode set mode;
 }
 
+-- the modes of the set, in file order
 abbrev pub doc_modes : ModeSet → List DocMode
 doc_modes set = map (doc_mode set) set.modes
 
@@ -75,9 +77,11 @@ EachIs V [] (b ∷ bs) ls rest = ⊥
 EachIs V (a ∷ as') [] ls rest = ⊥
 EachIs V (a ∷ as') (b ∷ bs) ls rest = (mid : Items) × V a b ls mid × EachIs V as' bs mid rest
 
+-- the line of a task with this name and offset
 abbrev pub OneTask : List ℕ → ℕ → Items → Items → Type 0
 OneTask name o ls rest = ls ≡ Some (TaskAt name o) ∷ rest
 
+-- the line of a message with this name, and where its first window opens and closes
 abbrev pub OneMessage : List ℕ → ℕ × ℕ → Items → Items → Type 0
 OneMessage name w ls rest = ls ≡ Some (MessageAt name w.0 w.1) ∷ rest
 
@@ -92,6 +96,7 @@ pub record Told : Type 0 where
   pub messages : List (ℕ × ℕ)
   pub tables : List (List ℕ)
 
+-- the schedule of these numbers
 abbrev pub schedule_of : Told → Schedule
 schedule_of t = record { starts = map pos t.starts; tasks = map pos t.tasks; messages = map (λ w. (pos w.0, pos w.1)) t.messages; tables = t.tables }
 
@@ -131,5 +136,6 @@ pub record AcceptedFor (modes : List DocMode) (bytes : List ℕ) (plans : List (
   pub told : IsPlan modes plans (items_of bytes)
   pub right : AllZip IsRight modes plans
 
+-- the document is accepted for the set, with these plans
 abbrev pub Accepts : ModeSet → List ℕ → List (Option Schedule) → Type 0
 Accepts set bytes plans = AcceptedFor (doc_modes set) bytes plans

@@ -16,6 +16,7 @@ use Rattle.proof_tree.specs.Reading.{Refusal}
 use Rattle.proof_tree.specs.Refusing.{BreaksFirst, RefusedFor}
 use Rattle.proof_tree.specs.Fewest.{IsBest}
 
+-- each mode keeps the rules of a mode file
 abbrev pub AllValid : List DocMode → Type 0
 AllValid modes = AllByRecursion (λ d. IsValid d.mode) modes
 

@@ -17,6 +17,7 @@ use Rattle.proof_tree.specs.Reading.{Place, Refusal, Grammar, Names, BadLeaf, Ex
 abbrev pub loop_plan : List ℕ
 loop_plan = codes "ttw 1\nmode run\nrefute 1\nbranch\ncycle 17 2 6\nbranch\ncycle 19 4 11\ncycle 19 18 9 11\ncycle 20 14 16 3\ncycle 18 7 3\nschedule 2\nstart 0 23\ntask sense 21\ntask ctrl 43\ntask act 120\nmessage m1 23 43\nmessage m2 48 120\ntable 1 m2\ntable 2 m1\nend\n"
 
+-- what its lines say
 abbrev pub loop_items : Items
 loop_items =
     Some Head ∷
@@ -48,6 +49,7 @@ one m = record { name = codes "m"; tasks = []; messages = []; mode = m } ∷ []
 abbrev pub ends : List DocMode → List ℕ → Result Place Refusal
 ends modes bytes = (read_document modes (items_of bytes)).ended
 
+-- lines that have a form, and lines that have none
 pub record LineRows : Type 0 where
   pub whole : items_of loop_plan ≡ loop_items
   pub leading_zero : item_of (codes "refute 01") ≡ None
@@ -62,6 +64,7 @@ pub record LineRows : Type 0 where
   pub no_table_number : item_of (codes "table m1") ≡ None
   pub empty_table : item_of (codes "table 3") ≡ Some (TableOf 3 [])
 
+-- documents of no mode and of one, and where they are refused
 pub record PlaceRows (m : PlainMode) : Type 0 where
   pub whole : ends [] (codes "ttw 1\nend\n") ≡ Ok (record { line = 3; rest = [] })
   pub empty : ends [] [] ≡ Err (Grammar 1)
@@ -79,6 +82,7 @@ pub record PlaceRows (m : PlainMode) : Type 0 where
 
 -- ---- a control loop over three nodes: sensing, control, acting
 
+-- the set
 abbrev pub loop_set : ModeSet
 loop_set = record {
   slots = 2;
@@ -100,6 +104,7 @@ loop_set = record {
   } ∷ [];
 }
 
+-- its schedule of two rounds
 abbrev pub loop_schedule : Schedule
 loop_schedule = record {
   starts = pos 0 ∷ pos 23 ∷ [];
@@ -115,6 +120,7 @@ loop_tree = record {
   refs = 17 ∷ 2 ∷ 6 ∷ 19 ∷ 4 ∷ 11 ∷ 19 ∷ 18 ∷ 9 ∷ 11 ∷ 20 ∷ 14 ∷ 16 ∷ 3 ∷ 18 ∷ 7 ∷ 3 ∷ [];
 }
 
+-- its plan
 abbrev pub loop_parts : List ModePart
 loop_parts = record { refuted = loop_tree ∷ []; schedule = Some loop_schedule } ∷ []
 

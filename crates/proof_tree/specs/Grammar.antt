@@ -95,6 +95,7 @@ form w args =
     else if bytes_eq w (codes "end") then (if alone args then Some End else None)
     else None
 
+-- what a line of these words says
 abbrev pub item_of_words : List (List ℕ) → Option Item
 item_of_words [] = None
 item_of_words (w ∷ args) = form w args

@@ -25,10 +25,12 @@ pub record Place : Type 0 where
   pub line : ℕ
   pub rest : Items
 
+-- a value and the place behind it, or the refusal
 abbrev pub Read : Type 0 → Type 0
 Read A = Result (A × Place) Refusal
 
 infixl 10 ◌>>=◌
+-- and then
 abbrev pub ◌>>=◌ : {A B : Type 0} → Read A → (A × Place → Read B) → Read B
 (Ok x) >>= f = f x
 (Err e) >>= f = Err e
@@ -38,6 +40,7 @@ abbrev pub next_item : Items → Option Item
 next_item [] = None
 next_item (item ∷ rest) = item
 
+-- the place behind the line that is due
 abbrev pub after : Place → Place
 after at = record { line = at.line + 1; rest = tail at.rest }
   where
@@ -52,6 +55,7 @@ each R (a ∷ bs) at = R a at >>= λ x. each R bs x.1 >>= λ y. Ok (x.0 ∷ y.0,
 
 -- ---- trees
 
+-- a leaf, where what it says is so
 abbrev pub leaf_end : Bool → ℕ → Place → Read (Unit {0})
 leaf_end true line at = Ok (tt, at)
 leaf_end false line at = Err (BadLeaf line)
@@ -75,26 +79,32 @@ tree_at o m r n p at (Some (Full j)) = leaf_end (leaf_holds m r p (Full j)) at.l
 tree_at o m r n p at (Some (Cycle refs)) = leaf_end (leaf_holds m r p (Cycle refs)) at.line (after at)
 tree_at o m r n p at other = not_node o at other
 
+-- a whole tree of mode o for r rounds
 abbrev pub tree : ℕ → PlainMode → ℕ → Place → Read (Unit {0})
 tree o m r at = tree_at o m r (length (decisions m)) [] at (next_item at.rest)
 
 -- ---- schedules
 
+-- a value, where the test holds
 abbrev pub due : {A : Type 0} → Bool → Refusal → A → Place → Read A
 due test refusal x at = if test then Ok (x, at) else Err refusal
 
+-- the r starts
 abbrev pub starts_at : ℕ → Place → Option Item → Read (List ℕ)
 starts_at r at (Some (Start ns)) = due (length ns == r) (Grammar at.line) ns (after at)
 starts_at r at _ = Err (Grammar at.line)
 
+-- the offset of the task of this name
 abbrev pub task_at : List ℕ → Place → Option Item → Read ℕ
 task_at name at (Some (TaskAt n o)) = due (bytes_eq n name) (Names at.line) o (after at)
 task_at name at _ = Err (Grammar at.line)
 
+-- where the first window of the message of this name opens and closes
 abbrev pub message_at : List ℕ → Place → Option Item → Read (ℕ × ℕ)
 message_at name at (Some (MessageAt n o q)) = due (bytes_eq n name) (Names at.line) (o, q) (after at)
 message_at name at _ = Err (Grammar at.line)
 
+-- the numbers of the messages of round j
 abbrev pub table_at : DocMode → ℕ → Place → Option Item → Read (List ℕ)
 table_at d j at (Some (TableOf x names)) = if x == j then due (list_all (is_message d) names) (Names at.line) (map (number_of d) names) (after at) else Err (Grammar at.line)
 table_at d j at _ = Err (Grammar at.line)
@@ -110,9 +120,11 @@ schedule d r at =
 
 -- ---- counts of rounds: r is due, and as many are left up to the greatest
 
+-- a line of a tree where a number of rounds is due: one too many, where a tree came before
 abbrev pub tree_line : ℕ → Place → Read (Option Schedule)
 tree_line r at = if nat_lt 1 r then Err (Extra at.line) else Err (Grammar at.line)
 
+-- r rounds are due, and as many numbers are left up to the most
 abbrev pub counts_at : ℕ → DocMode → ℕ → ℕ → Place → Option Item → Read (Option Schedule)
 counts_at o d left r at None = Err (Grammar at.line)
 counts_at o d left r at (Some (ScheduleOf x)) = if x == r then schedule d r (after at) else Err (MissingCount o r)
@@ -129,6 +141,7 @@ counts_at o d left r at _ = Err (Grammar at.line)
 
 -- ---- modes, and the document
 
+-- the line that begins this mode
 abbrev pub mode_line : DocMode → Place → Option Item → Read (Unit {0})
 mode_line d at (Some (ModeNamed name)) = due (bytes_eq name d.name) (Names at.line) tt (after at)
 mode_line d at _ = Err (Grammar at.line)
@@ -137,14 +150,17 @@ mode_line d at _ = Err (Grammar at.line)
 abbrev pub mode : ℕ × DocMode → Place → Read (Option Schedule)
 mode p at = mode_line p.1 at (next_item at.rest) >>= λ x. counts_at p.0 p.1 (most_rounds p.1.mode) 1 x.1 (next_item x.1.rest)
 
+-- the first line
 abbrev pub is_head : Option Item → Bool
 is_head (Some Head) = true
 is_head _ = false
 
+-- the last line
 abbrev pub is_end : Option Item → Bool
 is_end (Some End) = true
 is_end _ = false
 
+-- the one line that may stand here
 abbrev pub fixed : (Option Item → Bool) → Place → Read (Unit {0})
 fixed test at = due (test (next_item at.rest)) (Grammar at.line) tt (after at)
 
@@ -154,6 +170,7 @@ pub record Reading : Type 0 where
   pub plans : List (Option Schedule)
   pub ended : Result Place Refusal
 
+-- a mode, and what is read behind it
 abbrev pub with_mode : Read (Option Schedule) → (Place → Reading) → Reading
 with_mode (Ok x) rest = record { plans = x.0 ∷ (rest x.1).plans; ended = (rest x.1).ended }
 with_mode (Err f) rest = record { plans = []; ended = Err f }
@@ -168,10 +185,12 @@ abbrev pub close_at : Read (Unit {0}) → Result Place Refusal
 close_at (Ok x) = if length x.1.rest == 0 then Ok x.1 else Err (Grammar x.1.line)
 close_at (Err f) = Err f
 
+-- the end of a document whose modes were read
 abbrev pub close : Result Place Refusal → Result Place Refusal
 close (Ok at) = close_at (fixed is_end at)
 close (Err f) = Err f
 
+-- the modes behind the first line, and the end
 abbrev pub behind_head : Read (Unit {0}) → List DocMode → Reading
 behind_head (Ok x) modes = let r = read_modes (enumerate_from 0 modes) x.1 in record { plans = r.plans; ended = close r.ended }
 behind_head (Err f) modes = record { plans = []; ended = Err f }

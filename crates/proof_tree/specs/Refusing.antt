@@ -37,6 +37,7 @@ RefusedFrom o (d ∷ modes) (Some s ∷ plans) ended refusal =
     IsSchedule d.mode (length s.starts) s × RefusedFrom (o + 1) modes plans ended refusal
     ⊎ ((clause : ℕ) × BreaksFirst d.mode s clause × (refusal ≡ Clause o clause))
 
+-- the document of these modes is refused with this refusal
 abbrev pub RefusedFor : List DocMode → List ℕ → Refusal → Type 0
 RefusedFor modes bytes refusal = let r = read_document modes (items_of bytes) in RefusedFrom 0 modes r.plans r.ended refusal
 

@@ -7,6 +7,7 @@ use Rattle.sched_model.specs.PlainMode.{PlainMode, instances}
 use Rattle.sched_model.specs.ConstraintProblem.{in_force, alternatives, decisions, load}
 use Rattle.proof_tree.specs.Items.{Item, Branch, Short, Full, Cycle, Refute}
 
+-- what the lines of a document say
 abbrev pub Items : Type 0
 Items = List (Option Item)
 
