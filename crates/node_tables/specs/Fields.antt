@@ -23,13 +23,16 @@ bytes_of (Byte low high n) = n ∷ []
 bytes_of (Short low high n) = short_bytes n
 bytes_of (Long low high z) = long_bytes z
 
+-- its value is in its range
 abbrev pub IsInRange : Field → Type 0
 IsInRange (Byte low high n) = (low ≤ n) × (n ≤ high)
 IsInRange (Short low high n) = (low ≤ n) × (n ≤ high)
 IsInRange (Long low high z) = (low ≤ℤ z) × (z ≤ℤ high)
 
+-- the bytes of fields
 abbrev pub bytes : List Field → List ℕ
 bytes fields = flat_map bytes_of fields
 
+-- each field is in its range
 abbrev pub AreInRange : List Field → Type 0
 AreInRange fields = AllByRecursion IsInRange fields

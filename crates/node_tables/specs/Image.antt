@@ -9,6 +9,7 @@ use Rattle.node_tables.specs.declared.tables.OwnRound.{OwnRound}
 use Rattle.node_tables.specs.declared.tables.OwnSlot.{OwnSlot}
 use Rattle.node_tables.specs.Fields.{Field, Byte, Short, Long, bytes, AreInRange}
 
+-- the slot of an own message
 abbrev pub slot_fields : OwnSlot → List Field
 slot_fields s =
     Byte 1 32 s.slot
@@ -16,6 +17,7 @@ slot_fields s =
     ∷ Long (negsuc 999999999999) (pos 1000000000000) s.release
     ∷ []
 
+-- a round, with the number of its own slots before them
 abbrev pub round_fields : OwnRound → List Field
 round_fields r =
     Long (pos 0) (pos 1000000000000) r.start
@@ -26,6 +28,7 @@ round_fields r =
 abbrev pub task_field : ℕ → List Field
 task_field n = Short 0 1023 n ∷ []
 
+-- an own message, with the numbers of its producers and consumers before them
 abbrev pub message_fields : OwnMessage → List Field
 message_fields m =
     Short 0 511 m.number
@@ -35,6 +38,7 @@ message_fields m =
     ++ Byte 0 16 (length m.consumers)
     ∷ flat_map task_field m.consumers)
 
+-- an own task: its wcet is at most its period
 abbrev pub task_fields : OwnTask → List Field
 task_fields t =
     Short 0 1023 t.number
@@ -43,6 +47,7 @@ task_fields t =
     ∷ Long (pos 1) t.period t.wcet
     ∷ []
 
+-- a mode, with the numbers of its rounds, tasks and messages before them
 abbrev pub mode_fields : ModeTable → List Field
 mode_fields m =
     Long (pos 1) (pos 1000000000000) m.hyper
@@ -54,6 +59,7 @@ mode_fields m =
     ∷ (flat_map message_fields m.messages
     ++ flat_map round_fields m.rounds))
 
+-- a table, behind the version of its image
 abbrev pub table_fields : NodeTable → List Field
 table_fields t =
     Byte 1 1 1

@@ -21,18 +21,23 @@ field size value fits s =
     if nat_lt (length s.bytes) size then Err Short
     else (if fits (value (take size s.bytes)) then Ok (value (take size s.bytes), record { at = s.at + size; bytes = drop size s.bytes }) else Err (Range s.at))
 
+-- a number of one byte in a range
 abbrev pub byte : ℕ → ℕ → Reads ℕ
 byte low high = field 1 (λ bytes. slice_index bytes 0) (λ n. nat_le low n && nat_le n high)
 
+-- a number of two bytes in a range, the high byte first
 abbrev pub short : ℕ → ℕ → Reads ℕ
 short low high = field 2 (from_be_bytes w16) (λ n. nat_le low n && nat_le n high)
 
+-- a signed number of eight bytes in a range, the highest byte first
 abbrev pub long : ℤ → ℤ → Reads ℤ
 long low high = field 8 (λ bytes. cast_signed w64 (from_be_bytes w64 bytes)) (λ z. int_le low z && int_le z high)
 
+-- nothing is read
 abbrev pub give : {X : Type 0} → X → Reads X
 give x s = Ok (x, s)
 
+-- what comes next, unless there was a fault
 abbrev pub go_on : {X Y : Type 0} → Result (X × Left) ImageFault → (X → Reads Y) → Result (Y × Left) ImageFault
 go_on (Ok g) next = next g.0 g.1
 go_on (Err e) next = Err e
@@ -46,6 +51,7 @@ abbrev pub counted : {X : Type 0} → ℕ → Reads X → Reads (List X)
 counted zero item = give []
 counted (suc n) item = after item (λ x. after (counted n item) (λ xs. give (x ∷ xs)))
 
+-- the slot of an own message
 abbrev pub slot : Reads OwnSlot
 slot =
     after (byte 1 32) (λ number.
@@ -53,6 +59,7 @@ slot =
     after (long (negsuc 999999999999) (pos 1000000000000)) (λ release.
     give (record { slot = number; message = message; release = release }))))
 
+-- a round, with the number of its own slots before them
 abbrev pub round : Reads OwnRound
 round =
     after (long (pos 0) (pos 1000000000000)) (λ start.
@@ -60,9 +67,11 @@ round =
     after (counted count slot) (λ slots.
     give (record { start = start; slots = slots }))))
 
+-- the number of a task
 abbrev pub task_number : Reads ℕ
 task_number = short 0 1023
 
+-- an own message, with the numbers of its producers and consumers before them
 abbrev pub message : Reads OwnMessage
 message =
     after (short 0 511) (λ number.
@@ -73,6 +82,7 @@ message =
     after (counted others task_number) (λ consumers.
     give (record { number = number; role = role; producers = producers; consumers = consumers })))))))
 
+-- an own task: its wcet is at most its period
 abbrev pub task : Reads OwnTask
 task =
     after task_number (λ number.
@@ -81,6 +91,7 @@ task =
     after (long (pos 1) period) (λ wcet.
     give (record { number = number; period = period; offset = offset; wcet = wcet })))))
 
+-- a mode, with the numbers of its rounds, tasks and messages before them
 abbrev pub mode : Reads ModeTable
 mode =
     after (long (pos 1) (pos 1000000000000)) (λ hyper.
@@ -93,6 +104,7 @@ mode =
     after (counted count round) (λ rounds.
     give (record { hyper = hyper; first_round = first_round; tasks = tasks; messages = messages; rounds = rounds })))))))))
 
+-- a table, behind the version of its image
 abbrev pub table : Reads NodeTable
 table =
     after (byte 1 1) (λ version.
@@ -106,5 +118,6 @@ abbrev pub whole : Result (NodeTable × Left) ImageFault → Result NodeTable Im
 whole (Ok g) = if length g.1.bytes == 0 then Ok g.0 else Err Trailing
 whole (Err e) = Err e
 
+-- the table of an image, or its first fault
 abbrev pub read : List ℕ → Result NodeTable ImageFault
 read bytes = whole (table (record { at = 0; bytes = bytes }))
