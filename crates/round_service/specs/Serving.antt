@@ -1,0 +1,34 @@
+-- Round instances that serve the instances of a message. The round instances are numbered from 1 over all hyperperiods.
+use Rattle.std.specs.Prelude.{ℕ, ◌+◌, ◌-◌, ◌*◌, ◌/◌, ◌%◌, ◌≤◌, Bool, nat_eq, List, [], ◌∷◌, ℤ, pos, ◌-ℤ◌, neg_ℤ}
+use Rattle.tick_num.specs.declared.differences.Diff.{Diff}
+use Rattle.tick_num.specs.Differences.{diff}
+use Rattle.sched_model.specs.Numbers.{natural}
+use Rattle.round_service.specs.declared.choices.MessageTimes.{MessageTimes}
+
+-- the numbers are within the limits
+pub record IsServable (t : MessageTimes) : Type 0 where
+  pub rounds : (1 ≤ t.rounds) × (t.rounds ≤ 256)
+  pub round : (1 ≤ t.round) × (t.round ≤ 1000000000)
+  pub hyper : (1 ≤ t.hyper) × (t.hyper ≤ 1000000000000)
+  pub period : (1 ≤ t.period) × (t.period ≤ 1000000000)
+  pub deadline : t.deadline ≤ 1000000000000
+
+-- the greatest round instance that any instance of the message can have
+abbrev pub most_choice : MessageTimes → ℕ
+most_choice t = t.rounds * ((t.period + t.deadline) / t.hyper + 2)
+
+-- the two constraints that round instance v lies in the window of instance k, where variables x and y open and close the message's first window
+abbrev pub served : ℕ → ℕ → MessageTimes → ℕ → ℤ → List Diff
+served x y t k v =
+    let g = natural v in
+    let j = (g - 1) % t.rounds in
+    let shift = pos ((g - 1) / t.rounds * t.hyper) -ℤ pos (k * t.period) in
+    diff x j shift ∷ diff j y (neg_ℤ shift -ℤ pos t.round) ∷ []
+
+-- the round, from 1, of a round instance: g is n * r + j for some n
+abbrev pub round_named : ℕ → ℤ → ℕ
+round_named r g = (natural g - 1) % r + 1
+
+-- round instance g is one of round j
+abbrev pub names_round : ℕ → ℕ → ℤ → Bool
+names_round r j g = nat_eq (round_named r g) j
