@@ -16,7 +16,7 @@ use Rattle.sched_model.specs.ConstraintProblem.{latest, places}
 use Rattle.sched_model.proofs.Pairs.{gcd_is, gcd_some}
 use Rattle.sched_model.proofs.Spans.{span_bounds}
 use Rattle.node_use.specs.declared.places.TaskTimes.{TaskTimes}
-use Rattle.node_use.specs.Between.{IsTimed, between, plain}
+use Rattle.node_use.specs.Between.{IsTimed, PairsAreDecisions, between, plain}
 
 -- ---- the greatest common divisor
 one_gcd : (a b d e : ℕ) → 0 < d → 0 < e → IsGcd a b d → IsGcd a b e → d ≡ e
@@ -112,3 +112,8 @@ same_between x y s t z d b c f e g h k =
     let c' : c ≡ neg_ℤ (z *ℤ d +ℤ pos s.wcet) = h ∙ ap (λ (u : ℤ). neg_ℤ (u +ℤ pos s.wcet)) g in
     let f' : f ≡ (z +ℤ pos 1) *ℤ d -ℤ pos t.wcet = k ∙ ap (λ (u : ℤ). u -ℤ pos t.wcet) once in
     rw (c', f', e)
+
+-- ---- durations that are those of tasks of a mode
+pub pairs_are : PairsAreDecisions
+pairs_are m r a b s t e f =
+    (λ p. rw (e.period, e.deadline, e.wcet, f.period, f.deadline, f.wcet), λ z. rw (e.period, e.wcet, f.period, f.wcet))

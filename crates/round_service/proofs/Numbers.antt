@@ -7,7 +7,7 @@ use Rattle.std.specs.Int.RustNames.{unsigned_abs}
 use Rattle.tick_num.specs.Differences.{diff}
 use Rattle.sched_model.specs.Numbers.{natural}
 use Rattle.round_service.specs.declared.choices.MessageTimes.{MessageTimes}
-use Rattle.round_service.specs.Serving.{IsServable, most_choice, served}
+use Rattle.round_service.specs.Serving.{ChoicesAreDecisions, IsServable, most_choice, served}
 
 below_quotient : (x r q : ℕ) → 0 < r → x < r * q → x / r < q
 below_quotient x r q p h =
@@ -58,3 +58,7 @@ natural_most (negsuc g) n b e h k = absurd (omega (arith, ints))
 pub same_served : (x y : ℕ) (t : MessageTimes) (k n : ℕ) (g c d : ℤ) → n ≡ natural g → c ≡ pos ((n - 1) / t.rounds * t.hyper) -ℤ pos (k * t.period) → d ≡ neg_ℤ c -ℤ pos t.round →
     (diff x ((n - 1) % t.rounds) c ∷ diff ((n - 1) % t.rounds) y d ∷ []) ≡ served x y t k g
 same_served x y t k n g c d e f h = rw (h, f, e)
+
+-- ---- numbers that are those of a message of a mode
+pub choices_are : ChoicesAreDecisions
+choices_are m r i t e = (λ p. rw (e.rounds, e.period, e.deadline, e.hyper), λ k v. rw (e.rounds, e.round, e.period, e.hyper))

@@ -1,8 +1,10 @@
 -- Round instances that serve the instances of a message. The round instances are numbered from 1 over all hyperperiods.
-use Rattle.std.specs.Prelude.{ℕ, ◌+◌, ◌-◌, ◌*◌, ◌/◌, ◌%◌, ◌≤◌, Bool, nat_eq, List, [], ◌∷◌, ℤ, pos, ◌-ℤ◌, neg_ℤ}
+use Rattle.std.specs.Prelude.{◌≡◌, ℕ, ◌+◌, ◌-◌, ◌*◌, ◌/◌, ◌%◌, ◌≤◌, Bool, nat_eq, List, [], ◌∷◌, ℤ, pos, ◌-ℤ◌, neg_ℤ}
 use Rattle.tick_num.specs.declared.differences.Diff.{Diff}
 use Rattle.tick_num.specs.Differences.{diff}
-use Rattle.sched_model.specs.Numbers.{natural}
+use Rattle.sched_model.specs.Numbers.{natural, span}
+use Rattle.sched_model.specs.PlainMode.{PlainMode, hyper, message_at}
+use Rattle.sched_model.specs.ConstraintProblem.{alternatives_of, chosen, closes_var, opens_var, serve}
 use Rattle.round_service.specs.declared.choices.MessageTimes.{MessageTimes}
 
 -- the numbers are within the limits
@@ -32,3 +34,17 @@ round_named r g = (natural g - 1) % r + 1
 -- round instance g is one of round j
 abbrev pub names_round : ℕ → ℕ → ℤ → Bool
 names_round r j g = nat_eq (round_named r g) j
+
+-- the numbers are those of message i of the mode, for r rounds
+pub record Shows (m : PlainMode) (r i : ℕ) (t : MessageTimes) : Type 0 where
+  pub rounds : t.rounds ≡ r
+  pub round : t.round ≡ m.round
+  pub hyper : t.hyper ≡ hyper m
+  pub period : t.period ≡ (message_at m i).period
+  pub deadline : t.deadline ≡ (message_at m i).deadline
+
+-- the alternatives of the first instance, the constraints of every choice and the loads are those of the constraint problem
+abbrev pub ChoicesAreDecisions : Type 0
+ChoicesAreDecisions = (m : PlainMode) (r i : ℕ) (t : MessageTimes) → Shows m r i t →
+    ((p : List ℤ) → span (pos 1) (pos (t.rounds * ((t.period + t.deadline) / t.hyper + 1))) ≡ alternatives_of m r (serve i 0) p)
+    × ((k : ℕ) (v : ℤ) → served (opens_var m r i) (closes_var m r i) t k v ≡ chosen m r (serve i k) v)

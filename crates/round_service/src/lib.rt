@@ -2,5 +2,9 @@
 #![tactic(auto)]
 
 mod choices;
+pub mod laws;
 
 pub use choices::{MessageTimes, first_choices, later_choices, load, round_of_choice, serve_diffs};
+
+#[cfg(test)]
+mod tests;
