@@ -3,8 +3,10 @@
 
 pub mod laws;
 mod places;
+mod sharing;
 
 pub use places::{TaskTimes, divisor_of, order_diffs, places_of};
+pub use sharing::pairs;
 
 #[cfg(test)]
 mod tests;

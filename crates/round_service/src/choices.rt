@@ -93,7 +93,18 @@ pub fn serve_diffs(opens: u32, closes: u32, times: MessageTimes, instance: u64, 
     let round = (before % times.rounds) as u32;
     let moved = shift(times, instance, before);
     let room = room_for(times.round, moved);
-    [Diff { x: opens, y: round, c: moved }, Diff { x: round, y: closes, c: room }]
+    [
+        Diff {
+            x: opens,
+            y: round,
+            c: moved,
+        },
+        Diff {
+            x: round,
+            y: closes,
+            c: room,
+        },
+    ]
 }
 
 /// How many of the choices of messages name the round `j`, from 1, where a hyperperiod has so many rounds.

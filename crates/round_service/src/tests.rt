@@ -3,7 +3,13 @@
 use super::*;
 use tick_num::Diff;
 
-const TWICE: MessageTimes = MessageTimes { rounds: 3, round: 10, hyper: 100, period: 50, deadline: 50 };
+const TWICE: MessageTimes = MessageTimes {
+    rounds: 3,
+    round: 10,
+    hyper: 100,
+    period: 50,
+    deadline: 50,
+};
 
 #[test]
 fn second_instance_alternatives(rt: HostRuntime) {

@@ -2,7 +2,7 @@ use Rattle.std.proofs.Common.{rules, arith, ◌≡◌, ◌≤◌, ◌∙◌, w64
 use Rattle.std.proofs.lemmas.Int.{ints, to_z-of_z, to_z_pos}
 use Rattle.sched_model.specs.Numbers.{gcd}
 use Rattle.sched_model.proofs.Pairs.{gcd_some}
-use Rattle.node_use.proofs.Pairs.{same_gcd, gcd_most}
+use Rattle.node_use.proofs.PlaceLemmas.{same_gcd, gcd_most}
 use Rattle.node_use.proofs.places.divisor_of.Goals as goal
 
 pub returns : goal.returns

@@ -1,6 +1,6 @@
 use Rattle.std.proofs.Common.{◌≡◌, ◌*ℤ◌, w64, FitsSigned}
 use Rattle.std.proofs.lemmas.Int.{to_z-of_z}
-use Rattle.node_use.proofs.Pairs.{start_bounds, fits_between}
+use Rattle.node_use.proofs.PlaceLemmas.{start_bounds, fits_between}
 use Rattle.node_use.proofs.places.place_start.Goals as goal
 
 pub overflow_mul-result : goal.overflow_mul-result

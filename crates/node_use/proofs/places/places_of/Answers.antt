@@ -3,7 +3,7 @@ use Rattle.std.specs.Int.{int_div_euclid}
 use Rattle.std.proofs.lemmas.Int.{ints, to_z-of_z}
 use Rattle.sched_model.specs.Numbers.{gcd}
 use Rattle.node_use.specs.Between.{plain}
-use Rattle.node_use.proofs.Pairs.{in_room}
+use Rattle.node_use.proofs.PlaceLemmas.{in_room}
 use Rattle.node_use.proofs.places.places_of.Goals as goal
 
 pub returns-clause-value : goal.returns-clause-value

@@ -1,4 +1,4 @@
-use Rattle.std.proofs.Common.{rules, ◌≡◌, ◌∙◌, ap, w64, ℤ, to_z, of_z, FitsSigned}
+use Rattle.std.proofs.Common.{rules, ◌∙◌, ap, w64, to_z, of_z, FitsSigned}
 use Rattle.std.proofs.lemmas.Int.{to_z-of_z}
 use Rattle.std.specs.Int.RustNames.{unsigned_abs}
 use Rattle.round_service.proofs.Numbers.{natural_abs, same_served}
