@@ -1,13 +1,12 @@
 -- The greatest common divisor, places and their bounds
-use Rattle.std.proofs.Common.{◌≡◌, ℕ, ◌+◌, ◌-◌, ◌*◌, ◌/◌, ◌<◌, ◌≤◌, ⊎_elim, refl, sym, ◌∙◌, ap, subst, arith, length, List, [], ◌∷◌, Contains, ltb, cond, w64, FitsSigned, ℤ, pos, negsuc, neg_ℤ, ◌+ℤ◌, ◌-ℤ◌, ◌*ℤ◌, ◌≤ℤ◌, ◌<ℤ◌}
+use Rattle.std.proofs.Common.{◌≡◌, ℕ, ◌+◌, ◌*◌, ◌/◌, ◌<◌, ◌≤◌, refl, sym, ◌∙◌, ap, subst, arith, length, List, [], ◌∷◌, Contains, ltb, cond, w64, FitsSigned, ℤ, pos, negsuc, neg_ℤ, ◌+ℤ◌, ◌-ℤ◌, ◌*ℤ◌, ◌≤ℤ◌, ◌<ℤ◌}
 use Rattle.std.specs.Int.{IsGcd, int_div_euclid}
 use Rattle.std.specs.Int.RustNames.{unsigned_abs}
 use Rattle.std.proofs.lemmas.Int.{ints}
-use Rattle.std.proofs.lemmas.Bool.{cases_lt, cond_above, cond_both}
+use Rattle.std.proofs.lemmas.Bool.{cond_above, cond_both}
 use Rattle.std.proofs.lemmas.Nat.Gcd.{le_of_dvd}
 use Rattle.std.proofs.Math.Nat.{mul-le-mul_left, mul-le-mul_right}
 use borrow.Author.Differences.{up, down, same_in}
-use Rattle.tick_num.specs.declared.differences.Diff.{Diff}
 use Rattle.tick_num.specs.Differences.{diff}
 use Rattle.tick_num.proofs.Floor.{floor_low, floor_high, sum-times}
 use Rattle.sched_model.specs.PlainMode.{PlainTask}
@@ -80,6 +79,7 @@ place_times d z x y e p l h = (before, after)
         let q = int_div_euclid y (pos d) in
         let m : (up z + down q) * d ≤ (up q + down z) * d = mul-le-mul_right d (omega (arith, ints, h)) in
         omega (arith, ints, m, floor_low y (pos d) q (omega (arith, ints, p)) refl)
+
     after : (e -ℤ x -ℤ pos d) ≤ℤ (z *ℤ pos d)
     after =
         let a = e -ℤ x +ℤ pos d -ℤ pos 1 in

@@ -1,12 +1,12 @@
 -- Pairs of tasks by their rows
-use Rattle.std.proofs.Common.{◌≡◌, ℕ, zero, suc, ◌+◌, ◌<◌, ◌≤◌, refl, sym, ◌∙◌, ap, arith, List, [], ◌∷◌, ◌++◌, append_assoc, append-nil, length, map, drop, drop-cons, get_or, Bool, true, false, cond, ltb, eqb, ◌&&◌, add-one}
+use Rattle.std.proofs.Common.{◌≡◌, ℕ, zero, suc, ◌+◌, ◌<◌, refl, sym, ◌∙◌, ap, arith, List, [], ◌∷◌, ◌++◌, append_assoc, append-nil, length, map, drop, drop-cons, get_or, Bool, true, false, cond, ltb, eqb, ◌&&◌, add-one}
 use Rattle.std.specs.List.{flat_map}
 use Rattle.std.proofs.lemmas.Grind.{flat_map-append}
 use Rattle.app_graph.specs.declared.mode_set.App.{App}
 use Rattle.app_graph.specs.declared.mode_set.Task.{Task}
 use Rattle.sched_model.specs.Numbers.{below}
 use Rattle.sched_model.specs.PlainMode.{PlainMode, TaskOfApp, plain_task, no_task, task_at, tasks_of}
-use Rattle.sched_model.specs.ConstraintProblem.{Decision, order, orders, ordered}
+use Rattle.sched_model.specs.ConstraintProblem.{order, orders, ordered}
 use Rattle.node_use.specs.declared.sharing.TaskRow.{TaskRow}
 use Rattle.node_use.specs.Pairs.{numbers_of, pairs_of, pair_at, pairs_with, row_at, row_of}
 
@@ -76,9 +76,9 @@ pub pairs_are : (m : PlainMode) (ts : List TaskOfApp) → m.tasks ≡ map plain_
 pairs_are m ts e =
     let n : length (map row_of ts) ≡ length m.tasks = length-rows ts ∙ sym (length-plain ts) ∙ ap length (sym e) in
     let inner = λ (a : ℕ) (l : a < length (map row_of ts)).
-        same_below (pair_at (map row_of ts) a) (λ b. map (numbers_of m) (ordered m a b)) (length (map row_of ts))
-        (λ b k. pair_is m ts e a b (omega (arith, l, length-rows ts)) (omega (arith, k, length-rows ts)))
-        ∙ ap (λ k. flat_map (λ b. map (numbers_of m) (ordered m a b)) (below k)) n ∙ sym (map_flat (numbers_of m) (ordered m a) (below (length m.tasks))) in
+    same_below (pair_at (map row_of ts) a) (λ b. map (numbers_of m) (ordered m a b)) (length (map row_of ts))
+    (λ b k. pair_is m ts e a b (omega (arith, l, length-rows ts)) (omega (arith, k, length-rows ts)))
+    ∙ ap (λ k. flat_map (λ b. map (numbers_of m) (ordered m a b)) (below k)) n ∙ sym (map_flat (numbers_of m) (ordered m a) (below (length m.tasks))) in
     same_below (pairs_with (map row_of ts)) (λ a. map (numbers_of m) (orders m a)) (length (map row_of ts)) inner
     ∙ ap (λ k. flat_map (λ a. map (numbers_of m) (orders m a)) (below k)) n ∙ sym (map_flat (numbers_of m) (orders m) (below (length m.tasks)))
 

@@ -144,7 +144,14 @@ fn before_run(start: Time, divisor: Time, wcet: u64) -> Time
 
 /// The two constraints of the choice `z`: the second task's runs stand at place `z` between those of the first.
 /// `divisor` is the greatest common divisor of the periods.
-pub fn order_diffs(first_var: u32, second_var: u32, first: TaskTimes, second: TaskTimes, divisor: Time, z: i64) -> [Diff; 2]
+pub fn order_diffs(
+    first_var: u32,
+    second_var: u32,
+    first: TaskTimes,
+    second: TaskTimes,
+    divisor: Time,
+    z: i64,
+) -> [Diff; 2]
     requires first { IsTimed first }
     requires second { IsTimed second }
     requires divisor { divisor ≡ pos (gcd first.period second.period) }
@@ -154,5 +161,16 @@ pub fn order_diffs(first_var: u32, second_var: u32, first: TaskTimes, second: Ta
     let start = place_start(first, second, divisor, z);
     let after = after_run(start, first.wcet);
     let before = before_run(start, divisor, second.wcet);
-    [Diff { x: first_var, y: second_var, c: after }, Diff { x: second_var, y: first_var, c: before }]
+    [
+        Diff {
+            x: first_var,
+            y: second_var,
+            c: after,
+        },
+        Diff {
+            x: second_var,
+            y: first_var,
+            c: before,
+        },
+    ]
 }

@@ -22,7 +22,10 @@ fn push_rows(rows: &mut Vec<TaskRow>, tasks: &[Task]) -> Result<(), AllocError>
     ensures { IfOk result (λ u. rows.new.items ≡ rows.old.items ++ map (λ t. record { number = t.number; node = t.node }) tasks.now) }
 {
     for task in tasks {
-        rows.push(TaskRow { number: task.number, node: task.node })?;
+        rows.push(TaskRow {
+            number: task.number,
+            node: task.node,
+        })?;
     }
     Ok(())
 }
@@ -47,7 +50,12 @@ fn rows_of(alloc: Global, apps: &[App]) -> Result<Vec<TaskRow>, AllocError>
 }
 
 /// Appends the pair of rows `a` and `b` where `a` is before `b` and both are on one node.
-fn push_pair(pairs: &mut Vec<(u32, u32)>, rows: &[TaskRow], a: usize, b: usize) -> Result<(), AllocError>
+fn push_pair(
+    pairs: &mut Vec<(u32, u32)>,
+    rows: &[TaskRow],
+    a: usize,
+    b: usize,
+) -> Result<(), AllocError>
     requires first { a < length rows.now }
     requires second { b < length rows.now }
     ensures { IfOk result (λ u. pairs.new.items ≡ pairs.old.items ++ pair_at rows.now a b) }

@@ -9,7 +9,11 @@ use tick_num::Diff;
 fn task(period: u64, wcet: u64) -> TaskTimes
     ensures { result ≡ record { period = period; deadline = period; wcet = wcet } }
 {
-    TaskTimes { period, deadline: period, wcet }
+    TaskTimes {
+        period,
+        deadline: period,
+        wcet,
+    }
 }
 
 #[test]

@@ -1,4 +1,4 @@
-use Rattle.std.proofs.Common.{rules, ◌≡◌, ◌∙◌, ap, w64, ℤ, to_z, of_z, FitsSigned, ◌*ℤ◌, ◌+ℤ◌, ◌-ℤ◌, pos}
+use Rattle.std.proofs.Common.{rules, ◌∙◌, w64, to_z, of_z, FitsSigned}
 use Rattle.std.proofs.lemmas.Int.{to_z-of_z}
 use Rattle.node_use.specs.Between.{plain}
 use Rattle.node_use.proofs.PlaceLemmas.{same_between, divisor_bounds}

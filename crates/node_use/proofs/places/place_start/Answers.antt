@@ -1,4 +1,4 @@
-use Rattle.std.proofs.Common.{◌≡◌, ◌*ℤ◌, w64, FitsSigned}
+use Rattle.std.proofs.Common.{◌*ℤ◌, w64, FitsSigned}
 use Rattle.std.proofs.lemmas.Int.{to_z-of_z}
 use Rattle.node_use.proofs.PlaceLemmas.{start_bounds, fits_between}
 use Rattle.node_use.proofs.places.place_start.Goals as goal

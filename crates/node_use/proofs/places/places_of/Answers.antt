@@ -1,4 +1,4 @@
-use Rattle.std.proofs.Common.{rules, arith, ◌≡◌, ◌≤◌, ◌+◌, ◌∙◌, ap, w64, ℤ, pos, ◌+ℤ◌, ◌-ℤ◌, to_z, of_z, FitsSigned}
+use Rattle.std.proofs.Common.{rules, arith, ◌≤◌, ◌+◌, ◌∙◌, ap, w64, ℤ, pos, ◌+ℤ◌, ◌-ℤ◌, to_z, of_z, FitsSigned}
 use Rattle.std.specs.Int.{int_div_euclid}
 use Rattle.std.proofs.lemmas.Int.{ints, to_z-of_z}
 use Rattle.sched_model.specs.Numbers.{gcd}

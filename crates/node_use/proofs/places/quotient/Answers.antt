@@ -1,6 +1,5 @@
-use Rattle.std.proofs.Common.{rules, arith, ◌≡◌, w64, ℤ}
-use Rattle.std.specs.Int.{int_div_euclid}
-use Rattle.std.proofs.lemmas.Int.{ints, to_z-of_z}
+use Rattle.std.proofs.Common.{arith}
+use Rattle.std.proofs.lemmas.Int.{to_z-of_z}
 use Rattle.node_use.proofs.PlaceLemmas.{quotient_low, quotient_high}
 use Rattle.node_use.proofs.places.quotient.Goals as goal
 

@@ -1,6 +1,5 @@
 use Rattle.std.proofs.Common.{◌≡◌, ◌++◌, map, take}
 use Rattle.app_graph.specs.declared.mode_set.Task.{Task}
-use Rattle.node_use.specs.declared.sharing.TaskRow.{TaskRow}
 use Rattle.node_use.proofs.sharing.push_rows.Given as goal
 
 abbrev pub invariant-loop-task : goal.invariant-loop-task
