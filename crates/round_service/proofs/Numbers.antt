@@ -61,4 +61,4 @@ same_served x y t k n g c d e f h = rw (h, f, e)
 
 -- ---- numbers that are those of a message of a mode
 pub choices_are : ChoicesAreDecisions
-choices_are m r i t e = (λ p. rw (e.rounds, e.period, e.deadline, e.hyper), λ k v. rw (e.rounds, e.round, e.period, e.hyper))
+choices_are m r i t e = (λ p. rw (e.rounds, e.period, e.deadline, e.hyper), λ k p. rw (e.rounds), λ k v. rw (e.rounds, e.round, e.period, e.hyper))

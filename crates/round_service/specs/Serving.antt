@@ -1,5 +1,5 @@
 -- Round instances that serve the instances of a message. The round instances are numbered from 1 over all hyperperiods.
-use Rattle.std.specs.Prelude.{◌≡◌, ℕ, ◌+◌, ◌-◌, ◌*◌, ◌/◌, ◌%◌, ◌≤◌, Bool, nat_eq, List, [], ◌∷◌, ℤ, pos, ◌-ℤ◌, neg_ℤ}
+use Rattle.std.specs.Prelude.{◌≡◌, ℕ, suc, length, slice_index_or, ◌+ℤ◌, ◌+◌, ◌-◌, ◌*◌, ◌/◌, ◌%◌, ◌≤◌, Bool, nat_eq, List, [], ◌∷◌, ℤ, pos, ◌-ℤ◌, neg_ℤ}
 use Rattle.tick_num.specs.declared.differences.Diff.{Diff}
 use Rattle.tick_num.specs.Differences.{diff}
 use Rattle.sched_model.specs.Numbers.{natural, span}
@@ -43,8 +43,9 @@ pub record Shows (m : PlainMode) (r i : ℕ) (t : MessageTimes) : Type 0 where
   pub period : t.period ≡ (message_at m i).period
   pub deadline : t.deadline ≡ (message_at m i).deadline
 
--- the alternatives of the first instance, the constraints of every choice and the loads are those of the constraint problem
+-- the alternatives of the first instance and of the later ones, and the constraints of every choice, are those of the constraint problem
 abbrev pub ChoicesAreDecisions : Type 0
 ChoicesAreDecisions = (m : PlainMode) (r i : ℕ) (t : MessageTimes) → Shows m r i t →
     ((p : List ℤ) → span (pos 1) (pos (t.rounds * ((t.period + t.deadline) / t.hyper + 1))) ≡ alternatives_of m r (serve i 0) p)
+    × ((k : ℕ) (p : List ℤ) → span (slice_index_or p (length p - 1) (pos 0) +ℤ pos 1) (slice_index_or p (length p - suc k) (pos 0) +ℤ pos t.rounds -ℤ pos 1) ≡ alternatives_of m r (serve i (suc k)) p)
     × ((k : ℕ) (v : ℤ) → served (opens_var m r i) (closes_var m r i) t k v ≡ chosen m r (serve i k) v)

@@ -2,7 +2,7 @@
 
 ghost use Rattle.round_service.specs.Serving.{ChoicesAreDecisions};
 
-/// Alternatives, constraints and loads from a message's numbers are those of its decisions in the mode's constraint problem.
+/// Alternatives and constraints from a message's numbers are those of its decisions in the mode's constraint problem.
 pub fn choices_are_decisions()
     ensures { ChoicesAreDecisions }
 {}
