@@ -1,10 +1,10 @@
 -- Round instances that serve the instances of a message. The round instances are numbered from 1 over all hyperperiods.
-use Rattle.std.specs.Prelude.{◌≡◌, ℕ, suc, length, slice_index_or, ◌+ℤ◌, ◌+◌, ◌-◌, ◌*◌, ◌/◌, ◌%◌, ◌≤◌, Bool, nat_eq, List, [], ◌∷◌, ℤ, pos, ◌-ℤ◌, neg_ℤ}
+use Rattle.std.specs.Prelude.{count_by, map, ◌≡◌, ℕ, suc, length, slice_index_or, ◌+ℤ◌, ◌+◌, ◌-◌, ◌*◌, ◌/◌, ◌%◌, ◌≤◌, Bool, nat_eq, List, [], ◌∷◌, ℤ, pos, ◌-ℤ◌, neg_ℤ}
 use Rattle.tick_num.specs.declared.differences.Diff.{Diff}
 use Rattle.tick_num.specs.Differences.{diff}
 use Rattle.sched_model.specs.Numbers.{natural, span}
 use Rattle.sched_model.specs.PlainMode.{PlainMode, hyper, message_at}
-use Rattle.sched_model.specs.ConstraintProblem.{alternatives_of, chosen, closes_var, opens_var, serve}
+use Rattle.sched_model.specs.ConstraintProblem.{alternatives_of, chosen, closes_var, load_of, opens_var, serve}
 use Rattle.round_service.specs.declared.choices.MessageTimes.{MessageTimes}
 
 -- the numbers are within the limits
@@ -49,3 +49,8 @@ ChoicesAreDecisions = (m : PlainMode) (r i : ℕ) (t : MessageTimes) → Shows m
     ((p : List ℤ) → span (pos 1) (pos (t.rounds * ((t.period + t.deadline) / t.hyper + 1))) ≡ alternatives_of m r (serve i 0) p)
     × ((k : ℕ) (p : List ℤ) → span (slice_index_or p (length p - 1) (pos 0) +ℤ pos 1) (slice_index_or p (length p - suc k) (pos 0) +ℤ pos t.rounds -ℤ pos 1) ≡ alternatives_of m r (serve i (suc k)) p)
     × ((k : ℕ) (v : ℤ) → served (opens_var m r i) (closes_var m r i) t k v ≡ chosen m r (serve i k) v)
+
+-- for choices of message instances, the load of the round at place j is how many of them name the round j + 1
+abbrev pub LoadsAreCounts : Type 0
+LoadsAreCounts = (r j : ℕ) (instances : List (ℕ × ℕ)) (vs : List ℤ) → length vs ≤ length instances →
+    load_of r j (map (λ s. serve s.0 s.1) instances) vs ≡ count_by (names_round r (j + 1)) vs
