@@ -62,7 +62,7 @@ modes_named set keeps = all_named set set.modes (λ i l d. modes_valid set keeps
 
 -- ---- schedules
 
-as_many : {A B : Type 0} (V : A → B → Items → Items → Type 0) (as' : List A) (bs : List B) (ls rest : Items) → EachIs V as' bs ls rest → length bs ≡ length as'
+pub as_many : {A B : Type 0} (V : A → B → Items → Items → Type 0) (as' : List A) (bs : List B) (ls rest : Items) → EachIs V as' bs ls rest → length bs ≡ length as'
 as_many V [] [] ls rest e = refl
 as_many V [] (b ∷ bs) ls rest e = absurd e
 as_many V (a ∷ as') [] ls rest e = absurd e
