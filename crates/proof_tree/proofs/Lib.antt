@@ -12,3 +12,4 @@ pub mod DocumentAnswers
 pub mod LineReading
 pub mod TextReading
 pub mod TreeStanding
+pub mod DistinctNames
