@@ -60,7 +60,7 @@ line_is d k (Some (ModeNamed n) ∷ ls) x e =
     ap (λ (m : List ℕ). Some (ModeNamed m) ∷ ls) (same_name n d.name u.0) ∙ ap (λ (z : Unit {0} × Place). Some (ModeNamed d.name) ∷ z.1.rest) u.1
 line_is d k (Some other ∷ ls) x e = absurd (refused (Grammar k) x e)
 
-mode_is : (p : ℕ × DocMode) (at : Place) (x : Option Schedule × Place) → mode p at ≡ Ok x → IsMode p.1 x.0 at.rest x.1.rest
+pub mode_is : (p : ℕ × DocMode) (at : Place) (x : Option Schedule × Place) → mode p at ≡ Ok x → IsMode p.1 x.0 at.rest x.1.rest
 mode_is p at x e =
     let b = bind_ok (mode_line p.1 at (next_item at.rest)) (λ y. counts_at p.0 p.1 (most_rounds p.1.mode) 1 y.1 (next_item y.1.rest)) x e in
     let c = counts_is p.0 p.1 (most_rounds p.1.mode) 1 b.0.1.line b.0.1.rest x b.2 refl in

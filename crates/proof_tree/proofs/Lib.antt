@@ -4,6 +4,7 @@ pub mod TreeReading
 pub mod ScheduleReading
 pub mod ScheduleWriting
 pub mod DocumentReading
+pub mod ReadShapes
 pub mod TreeRefuting
 pub mod FewestRounds
 pub mod DocumentWriting
@@ -11,3 +12,4 @@ pub mod DocumentAnswers
 pub mod LineReading
 pub mod TextReading
 pub mod TreeStanding
+pub mod DistinctNames

@@ -12,11 +12,10 @@ use Rattle.sched_model.specs.declared.trees.TreeNode.{TreeNode}
 use Rattle.sched_model.specs.PlainMode.{PlainMode}
 use Rattle.sched_model.specs.ConstraintProblem.{in_force, alternatives, decisions, load}
 use Rattle.sched_model.specs.RefutationTree.{Node, branch, short, full, cycle, node_of, EachOf as EachTree, ValidFrom}
-use Rattle.proof_tree.specs.declared.tree.Tree.{Tree}
 use Rattle.proof_tree.specs.Items.{Item, Refute}
 use Rattle.proof_tree.specs.PlanText.{node_item, stored_item, tree_items, refuted_items}
-use Rattle.proof_tree.specs.TreeLines.{Items, TreesFrom, closes, is_cycle, is_negative, EachOf, ValidLines, TreeStands}
-use Rattle.proof_tree.specs.DocumentLaws.{TreesStand, ListsStand, ValidTreesFrom}
+use Rattle.proof_tree.specs.TreeLines.{Items, closes, is_cycle, is_negative, EachOf, ValidLines, TreeStands}
+use Rattle.proof_tree.specs.DocumentLaws.{TreesStand, ListsStand}
 
 both_true : (a b : Bool) → a ≡ true → b ≡ true → (a && b) ≡ true
 both_true a b e f = rw (e, f) refl

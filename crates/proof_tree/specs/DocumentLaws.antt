@@ -1,9 +1,9 @@
 -- Laws of plan documents.
 use Rattle.std.specs.Prelude.{◌≡◌, ℕ, ◌≤◌, ◌⊎◌, true, List, ◌∷◌, ◌++◌, length, map, Option, Some, ⊤, [], ◌+◌}
 use Rattle.std.specs.List.{AllZip, AllByRecursion, join_with_byte, flat_map, enumerate_from}
+use Rattle.app_graph.specs.declared.mode_set.ModeSet.{ModeSet}
+use Rattle.app_graph.specs.Validation.{KeepsRules}
 use Rattle.sched_model.specs.PlainMode.{PlainMode}
-use Rattle.sched_model.specs.RightSchedule.{IsSchedule}
-use Rattle.sched_model.specs.ValidMode.{IsValid}
 use Rattle.sched_model.specs.declared.schedule.Schedule.{Schedule}
 use Rattle.sched_model.specs.RefutationTree.{ValidTree}
 use Rattle.proof_tree.specs.declared.tree.Tree.{Tree}
@@ -11,34 +11,24 @@ use Rattle.proof_tree.specs.PlanText.{tree_items, refuted_items}
 use Rattle.proof_tree.specs.TreeLines.{Items, TreeStands, TreesFrom}
 use Rattle.proof_tree.specs.Items.{Item, first_word, other_words, text_of}
 use Rattle.proof_tree.specs.Spelled.{is_writable}
-use Rattle.proof_tree.specs.Accepting.{DocMode, AcceptedFor, items_of, limit, longest}
+use Rattle.proof_tree.specs.Accepting.{doc_modes, Accepts, items_of, limit, longest}
 use Rattle.proof_tree.specs.Reading.{Refusal}
-use Rattle.proof_tree.specs.Refusing.{BreaksFirst, RefusedFor}
+use Rattle.proof_tree.specs.Refusing.{Refuses}
 use Rattle.proof_tree.specs.Fewest.{IsBest}
 
--- each mode keeps the rules of a mode file
-abbrev pub AllValid : List DocMode → Type 0
-AllValid modes = AllByRecursion (λ d. IsValid d.mode) modes
+-- one has the property, and no other
+abbrev pub HasOne : {A : Type 0} → (A → Type 0) → Type 0
+HasOne {A} P = (x : A) × P x × ((y : A) → P y → y ≡ x)
 
--- a document has at most one list of plans, at most one refusal, and not both
-abbrev pub AnswersAreOne : Type 0
-AnswersAreOne = (modes : List DocMode) (bytes : List ℕ) → AllValid modes →
-    ((p q : List (Option Schedule)) → AcceptedFor modes bytes p → AcceptedFor modes bytes q → p ≡ q)
-    × ((f g : Refusal) → RefusedFor modes bytes f → RefusedFor modes bytes g → f ≡ g)
-    × ((p : List (Option Schedule)) (f : Refusal) → AcceptedFor modes bytes p → RefusedFor modes bytes f → ⊥)
-
--- each schedule is right or breaks a first clause
-abbrev pub IsDecided : Type 0
-IsDecided = (m : PlainMode) (s : Schedule) → IsSchedule m (length s.starts) s ⊎ ((clause : ℕ) × BreaksFirst m s clause)
-
--- a document is accepted or refused
+-- a document is accepted with one list of plans and not refused, or refused with one refusal and not accepted
 abbrev pub OneAnswers : Type 0
-OneAnswers = IsDecided → (modes : List DocMode) (bytes : List ℕ) →
-    ((plans : List (Option Schedule)) × AcceptedFor modes bytes plans) ⊎ ((f : Refusal) × RefusedFor modes bytes f)
+OneAnswers = (set : ModeSet) (bytes : List ℕ) → KeepsRules set →
+    (HasOne (Accepts set bytes) × ((f : Refusal) → ¬ (Refuses set bytes f)))
+    ⊎ (HasOne (Refuses set bytes) × ((plans : List (Option Schedule)) → ¬ (Accepts set bytes plans)))
 
 -- an accepted schedule has the fewest rounds, and where a mode has none, none is right
 abbrev pub AcceptedAreBest : Type 0
-AcceptedAreBest = (modes : List DocMode) (bytes : List ℕ) (plans : List (Option Schedule)) → AllValid modes → AcceptedFor modes bytes plans → AllZip IsBest modes plans
+AcceptedAreBest = (set : ModeSet) (bytes : List ℕ) (plans : List (Option Schedule)) → KeepsRules set → Accepts set bytes plans → AllZip IsBest (doc_modes set) plans
 
 -- what a line says is writable, in a line that is not too long
 pub record HasRoom (item : Item) : Type 0 where

@@ -1,6 +1,6 @@
 //! Laws of plan documents.
 
-ghost use Rattle.proof_tree.specs.DocumentLaws.{AcceptedAreBest, AnswersAreOne, ListsStand, OneAnswers, TextsAreRead, TreesStand};
+ghost use Rattle.proof_tree.specs.DocumentLaws.{AcceptedAreBest, ListsStand, OneAnswers, TextsAreRead, TreesStand};
 ghost use Rattle.proof_tree.specs.Spelled.{LinesAreExact};
 
 /// A line is read as a meaning exactly where it is the one spelling of that meaning.
@@ -8,12 +8,7 @@ pub fn lines_are_exact()
     ensures { LinesAreExact }
 {}
 
-/// A document has at most one list of plans, at most one refusal, and not both.
-pub fn answers_are_one()
-    ensures { AnswersAreOne }
-{}
-
-/// A document is accepted with some plans, or refused.
+/// A document is accepted with one list of plans, or refused with one refusal, and not both.
 pub fn one_answers()
     ensures { OneAnswers }
 {}
