@@ -18,6 +18,8 @@ mod raw;
 mod size_rules;
 mod spelling;
 mod task_rules;
+#[cfg(test)]
+mod tests;
 mod validation;
 
 pub use faults::GraphFault;
