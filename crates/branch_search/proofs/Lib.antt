@@ -1,0 +1,6 @@
+pub mod Numbered
+pub mod Popping
+pub mod Walks
+pub mod Forces
+pub mod Comings
+pub mod Searches

@@ -1,0 +1,84 @@
+-- From the loop of the search to its answers
+use Rattle.std.proofs.Common.{◌≡◌, ℕ, ◌+◌, ◌-◌, ◌*◌, ◌<◌, ◌≤◌, List, [], length, map, All, refl, sym, ◌∙◌, ap, subst, arith, ℤ}
+use Rattle.std.proofs.lemmas.List.{length-map, take_all}
+use Rattle.tick_num.specs.declared.differences.Diff.{Diff}
+use Rattle.sched_model.specs.declared.trees.TreeNode.{TreeNode}
+use Rattle.sched_model.specs.PlainMode.{PlainMode}
+use Rattle.sched_model.specs.ConstraintProblem.{vars, base, decisions}
+use Rattle.sched_model.specs.SearchCost.{Visited}
+use Rattle.sched_model.specs.RefutationTree.{Node, node_of, IsOwnTree, OwnTree}
+use Rattle.sched_model.proofs.Refutations.{own_valid}
+use Rattle.sched_model.proofs.OwnTrees.{tree_count, tree_excludes}
+use Rattle.branch_search.specs.declared.canonical.Answer.{Answer}
+use Rattle.branch_search.specs.declared.canonical.Answer.TheVariants.{Found, Refuted, Spent}
+use Rattle.branch_search.specs.Walking.{Standing, Fronts, Fits}
+use Rattle.branch_search.specs.Answers.{IsAnswer, HasTree}
+use Rattle.branch_search.specs.declared.walk.Next.{Next}
+use Rattle.branch_search.specs.declared.walk.Next.TheVariants as nexts
+use Rattle.branch_search.specs.Coming.{Comes, Benched}
+use Rattle.branch_search.proofs.Walks.{more_due}
+use Rattle.branch_search.proofs.Forces.{base_alone}
+use Rattle.branch_search.proofs.Comings.{root_stands}
+
+-- what is known before each visit
+pub record Ready (m : PlainMode) (r : ℕ) (p g : List ℤ) (nodes : List TreeNode) (refs : List ℕ) (list : List Diff) (v c n : ℕ) : Type 0 where
+  pub standing : Standing m r p g nodes refs
+  pub fronts : Fronts m r p list
+  pub variables : v ≡ vars m r
+  pub room : c ≡ length (base m r) + 2 * length (decisions m)
+  pub limit : c ≤ 15_680
+  pub count : length nodes ≡ n
+
+module _ (m : PlainMode) (r : ℕ) where
+  ready_root : (list : List Diff) (v c : ℕ) → list ≡ base m r → All (Fits (vars m r)) list → v ≡ vars m r → c ≡ length (base m r) + 2 * length (decisions m) → c ≤ 15_680 → Ready m r [] [] [] [] list v c 0
+  ready_root list v c e f ev ec l = record {
+    standing = root_stands m r;
+    fronts = record { front = take_all (length (base m r) + 2 * (0 - 1)) list (omega (arith, ap (λ (x : List Diff). length x) e)) ∙ e ∙ sym (base_alone m r); fits = f };
+    variables = ev;
+    room = ec;
+    limit = l;
+    count = refl;
+  }
+
+  pub ready_first : (p g : List ℤ) (nodes : List TreeNode) (refs : List ℕ) (list : List Diff) (v c : ℕ) → p ≡ [] → g ≡ [] → nodes ≡ [] → refs ≡ [] → list ≡ base m r → All (Fits (vars m r)) list → v ≡ vars m r → c ≡ length (base m r) + 2 * length (decisions m) → c ≤ 15_680 →
+      Ready m r p g nodes refs list v c 0
+  ready_first p g nodes refs list v c ep eg en er e f ev ec l =
+      subst (λ (x : List ℤ). Ready m r x g nodes refs list v c 0) (sym ep)
+      (subst (λ (x : List ℤ). Ready m r [] x nodes refs list v c 0) (sym eg)
+      (subst (λ (x : List TreeNode). Ready m r [] [] x refs list v c 0) (sym en)
+      (subst (λ (x : List ℕ). Ready m r [] [] [] x list v c 0) (sym er) (ready_root list v c e f ev ec l))))
+
+  pub ready_next : (p g q h : List ℤ) (nodes nodes' : List TreeNode) (refs refs' : List ℕ) (list list' : List Diff) (values : List ℤ) (v c v' c' n : ℕ) (next : Next) → Ready m r p g nodes refs list v c n → Comes m r p (length nodes) q h nodes' refs' next → Benched m r q list' values next → next ≡ nexts.Due → v' ≡ v → c' ≡ c →
+      Ready m r q h nodes' refs' list' v' c' (n + 1)
+  ready_next p g q h nodes nodes' refs refs' list list' values v c v' c' n next s a b is ev ec =
+      let w = subst (Comes m r p (length nodes) q h nodes' refs') is a in
+      record {
+        standing = w.0;
+        fronts = subst (Benched m r q list' values) is b;
+        variables = ev ∙ s.variables;
+        room = ec ∙ s.room;
+        limit = omega (arith, ec, s.limit);
+        count = omega (arith, w.2, s.count);
+      }
+
+  pub spent_answer : (p g : List ℤ) (nodes : List TreeNode) (refs : List ℕ) (n : ℕ) → Standing m r p g nodes refs → length nodes ≡ n → (v : ℕ) → Visited m r v → n < v
+  spent_answer p g nodes refs n s e v h = omega (arith, e, length-map nodes (node_of refs), more_due m r p g (map (node_of refs) nodes) v s.reached h)
+
+  own_counts : (nodes : List Node) → IsOwnTree m r nodes → Visited m r (length nodes)
+  own_counts nodes t =
+      let w = tree_count m r (length (decisions m)) [] nodes [] t in
+      subst (Visited m r) (let e : w.0 ≡ length nodes = omega (arith, w.2) in e) w.1
+
+  pub refuted_answer : (p q h : List ℤ) (before n budget : ℕ) (nodes : List TreeNode) (refs : List ℕ) (next : Next) (answer : Answer) → Comes m r p before q h nodes refs next → next ≡ nexts.Refuted → before ≡ n → n < budget → HasTree nodes refs (n + 1) answer → IsAnswer m r budget answer
+  refuted_answer p q h before n budget nodes refs next (Found c v k) w is e l a = absurd a
+  refuted_answer p q h before n budget nodes refs next (Refuted tree k) w is e l a =
+      let t = subst (Comes m r p before q h nodes refs) is w in
+      let own : OwnTree m r tree.nodes tree.refs = subst (λ (x : List TreeNode). OwnTree m r x tree.refs) (sym a.0) (subst (OwnTree m r nodes) (sym a.1) t.0) in
+      let size : k ≡ length tree.nodes = omega (arith, a.2, t.1, e, ap (λ (x : List TreeNode). length x) a.0) in (
+        own,
+        size,
+        subst (Visited m r) (length-map tree.nodes (node_of tree.refs) ∙ sym size) (own_counts (map (node_of tree.refs) tree.nodes) own.tree),
+        omega (arith, a.2, l),
+        λ leads. tree_excludes m r (length (decisions m)) [] (map (node_of tree.refs) tree.nodes) [] (own_valid m r (length (decisions m)) [] (map (node_of tree.refs) tree.nodes) [] own.tree) leads,
+      )
+  refuted_answer p q h before n budget nodes refs next Spent w is e l a = absurd a

@@ -1,0 +1,33 @@
+-- What comes after a visited prefix
+use Rattle.std.specs.Prelude.{◌≡◌, ℕ, suc, List, length, ℤ, ⊤}
+use Rattle.tick_num.specs.declared.differences.Diff.{Diff}
+use Rattle.tick_num.specs.Differences.{LeastValues, listed}
+use Rattle.sched_model.specs.declared.trees.TreeNode.{TreeNode}
+use Rattle.sched_model.specs.PlainMode.{PlainMode}
+use Rattle.sched_model.specs.ConstraintProblem.{vars, in_force}
+use Rattle.sched_model.specs.SearchCost.{Visited, LeadsAt}
+use Rattle.sched_model.specs.PrintedSchedule.{FirstList}
+use Rattle.sched_model.specs.RefutationTree.{OwnTree}
+use Rattle.branch_search.specs.Stacks.{Step, Follows}
+use Rattle.branch_search.specs.Stacks as steps
+use Rattle.branch_search.specs.Walking.{Standing, Fronts}
+use Rattle.branch_search.specs.declared.walk.Next.{Next}
+use Rattle.branch_search.specs.declared.walk.Next.TheVariants.{Due, Found, Refuted}
+
+-- the next stack after a whole tree, or none
+abbrev pub IsStep : List ℤ → List ℤ → Step → Next → Type 0
+IsStep prefix highs s Due = s ≡ steps.Due prefix highs
+IsStep prefix highs s Refuted = s ≡ steps.Complete
+IsStep prefix highs s Found = ⊥
+
+-- what is known after the visit of p, before which there were so many nodes
+abbrev pub Comes : PlainMode → ℕ → List ℤ → ℕ → List ℤ → List ℤ → List TreeNode → List ℕ → Next → Type 0
+Comes m r p before prefix highs nodes refs Due = Standing m r prefix highs nodes refs × Follows p prefix × (length nodes ≡ suc before)
+Comes m r p before prefix highs nodes refs Found = FirstList m r prefix × (prefix ≡ p) × LeadsAt m r × Visited m r (suc before)
+Comes m r p before prefix highs nodes refs Refuted = OwnTree m r nodes refs × (length nodes ≡ suc before)
+
+-- what the list of constraints and the values are then
+abbrev pub Benched : PlainMode → ℕ → List ℤ → List Diff → List ℤ → Next → Type 0
+Benched m r prefix list values Due = Fronts m r prefix list
+Benched m r prefix list values Found = LeastValues (in_force m r prefix) (listed values) × (length values ≡ vars m r)
+Benched m r prefix list values Refuted = ⊤

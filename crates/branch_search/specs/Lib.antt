@@ -1,0 +1,4 @@
+pub mod Stacks
+pub mod Walking
+pub mod Coming
+pub mod Answers

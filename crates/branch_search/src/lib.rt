@@ -1,0 +1,11 @@
+//! The canonical search: the first full list of choices under which a mode's constraints have a solution, or a tree that shows that there is none.
+#![tactic(auto)]
+
+mod canonical;
+mod posed;
+mod seeing;
+mod stack;
+mod walk;
+
+pub use canonical::{Answer, search};
+pub use posed::Posed;

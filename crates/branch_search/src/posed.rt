@@ -1,0 +1,59 @@
+//! What a search asks of a constraint problem.
+
+ghost use Rattle.std.specs.Prelude.{◌≡◌, ℕ, ◌+◌, ◌-◌, ◌*◌, ◌<◌, ◌≤◌, ◌↔◌, List, [], ◌∷◌, length, slice_index_or, All, ℤ, pos, IsTrue, MatchOption};
+ghost use Rattle.sched_model.specs.Numbers.{span};
+ghost use Rattle.sched_model.specs.PlainMode.{PlainMode, instances};
+ghost use Rattle.sched_model.specs.ConstraintProblem.{vars, base, alternatives, decisions, chosen, load, order};
+ghost use Rattle.sched_model.specs.OpenPrefix.{Chosen};
+ghost use Rattle.sched_model.specs.RefutationTree.{Roomy};
+ghost use Rattle.branch_search.specs.Walking.{Fits};
+
+use tick_num::Diff;
+
+/// The constraint problem of a mode and a number of rounds. No call takes memory.
+pub trait Posed {
+    ghost mode: { Self → PlainMode };
+
+    ghost rounds: { Self → ℕ };
+
+    /// How many variables there are.
+    fn vars(&self) -> u32
+        ensures count { result ≡ vars (mode self.now) (rounds self.now) }
+        ensures few { result ≤ 512 };
+
+    /// The constraints that always hold.
+    fn base(&self) -> &[Diff]
+        ensures list { result.now ≡ base (mode self.now) (rounds self.now) }
+        ensures few { length result.now ≤ 7_488 }
+        ensures fits { All (Fits (vars (mode self.now) (rounds self.now))) result.now };
+
+    /// How many decisions there are.
+    fn decisions(&self) -> usize
+        ensures count { result ≡ length (decisions (mode self.now)) }
+        ensures few { result ≤ 4_096 };
+
+    /// The least and the greatest alternative of the decision after these choices; there is none where the least is above the greatest.
+    fn alternatives(&self, prefix: &[i64]) -> (i64, i64)
+        requires more { length prefix.now < length (decisions (mode self.now)) }
+        requires chosen { Chosen (mode self.now) (rounds self.now) prefix.now }
+        ensures { span result.0 result.1 ≡ alternatives (mode self.now) (rounds self.now) prefix.now };
+
+    /// The two constraints that the last of these choices adds.
+    fn diffs_of_last(&self, prefix: &[i64]) -> [Diff; 2]
+        requires some { 0 < length prefix.now }
+        requires few { length prefix.now ≤ length (decisions (mode self.now)) }
+        requires chosen { Chosen (mode self.now) (rounds self.now) prefix.now }
+        ensures list { result ≡ chosen (mode self.now) (rounds self.now) (slice_index_or (decisions (mode self.now)) (length prefix.now - 1) (order 0 0)) (slice_index_or prefix.now (length prefix.now - 1) (pos 0)) }
+        ensures fits { All (Fits (vars (mode self.now) (rounds self.now))) result };
+
+    /// Whether the rounds have too few slots for the instances of all messages.
+    fn short_of_slots(&self) -> bool
+        ensures { IsTrue result ↔ (rounds self.now * (mode self.now).slots < instances (mode self.now)) };
+
+    /// The first round, from 1, that these choices name more often than it has slots.
+    fn overfull(&self, prefix: &[i64]) -> Option<u64>
+        requires few { length prefix.now ≤ length (decisions (mode self.now)) }
+        requires chosen { Chosen (mode self.now) (rounds self.now) prefix.now }
+        ensures { MatchOption result (Roomy (mode self.now) (rounds self.now) (rounds self.now) prefix.now)
+            (λ j. (1 ≤ j) × (j ≤ rounds self.now) × Roomy (mode self.now) (rounds self.now) (j - 1) prefix.now × ((mode self.now).slots < load (mode self.now) (rounds self.now) (j - 1) prefix.now)) };
+}

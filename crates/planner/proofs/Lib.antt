@@ -1,0 +1,4 @@
+pub mod StartLemmas
+pub mod ClosedForm
+pub mod SettledLemmas
+pub mod Planned

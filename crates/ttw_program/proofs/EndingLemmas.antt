@@ -1,0 +1,60 @@
+-- How a run ends, from what writing its text ended with
+use Rattle.std.proofs.Common.{◌≡◌, ℕ, List, Option, refl, sym, ◌∙◌, subst, ◌⊎◌, inl, inr, ⊎_elim, Bool, true, false, cond}
+use Rattle.std.proofs.lemmas.Bool.{cases_Bool}
+use Rattle.std.specs.Prelude.{if◌then◌else◌}
+use Rattle.std.specs.Io.KnownBytes.{append_known}
+use Rattle.ttw_io.specs.Outside.{Rose, Told, untold, missing, file, OfFile, AddsFront}
+use Rattle.ttw_program.specs.declared.status.Status.{Status}
+use Rattle.ttw_program.specs.declared.status.Status.TheVariants.{Done, NoSchedule, Usage, ModeFile, ReadFault, WriteFault}
+use Rattle.ttw_program.specs.FaultLines.{read_fault_line}
+use Rattle.ttw_program.specs.Endings.{Counts, Ends, Finishes, AddsDue, ReadFaultDue}
+use Rattle.ttw_program.specs.Commands.{Command, plan, none}
+use Rattle.ttw_program.specs.Due.{OfCommand, OfSet, PlanDue, plan_status}
+use Rattle.proof_tree.specs.declared.tree.ModePart.{ModePart}
+
+-- a status that an answer has
+pub data IsAnswered : Status → Type 0 where
+  done : IsAnswered Done
+  no_schedule : IsAnswered NoSchedule
+  usage : IsAnswered Usage
+  mode_file : IsAnswered ModeFile
+
+answered : (a b : Status) → a ≡ b → IsAnswered b → IsAnswered a
+answered a b e k = subst IsAnswered (sym e) k
+
+of_test : (b : Bool) → IsAnswered (if b then Done else NoSchedule)
+of_test true = done
+of_test false = no_schedule
+
+of_set : (bytes : List ℕ) (s : Status) (t : List ℕ) → OfSet PlanDue bytes s t → IsAnswered s
+of_set bytes s t (inl (fault, broken, es, et)) = answered s ModeFile es mode_file
+of_set bytes s t (inr (set, reads, inl (choices, es, et))) = answered s ModeFile es mode_file
+of_set bytes s t (inr (set, reads, inr (all, (parts, each, es, et)))) = answered s (plan_status parts) es (of_test _)
+
+of_file : (told : Told) (s : Status) (t : List ℕ) → OfFile told (OfSet PlanDue) s t → IsAnswered s
+of_file untold s t (bytes, d) = of_set bytes s t d
+of_file missing s t d = absurd d
+of_file (file bytes) s t d = of_set bytes s t d
+
+-- what is due of a command has the status of an answer
+pub due_answered : (command : Command) (told : List ℕ → Told) (s : Status) (t : List ℕ) → OfCommand command told s t → IsAnswered s
+due_answered (plan name budget) told s t d = of_file (told name) s t d
+due_answered none told s t d = answered s Usage d.0 usage
+
+adds : (Due : Status → List ℕ → Type 0) (counts : Counts) (old new : Option (List ℕ)) (s : Status) (t : List ℕ) → IsAnswered s → Due s t → new ≡ append_known old t → Ends Due counts old new s
+adds Due counts old new s t done d e = (t, d, e)
+adds Due counts old new s t no_schedule d e = (t, d, e)
+adds Due counts old new s t usage d e = (t, d, e)
+adds Due counts old new s t mode_file d e = (t, d, e)
+
+-- an answer that is due was written, or a prefix of it
+pub ends_answer : (Due : Status → List ℕ → Type 0) (counts : Counts) (old new : Option (List ℕ)) (s result : Status) (t : List ℕ) → IsAnswered s → Due s t →
+    Finishes s t counts.writes_before counts.writes_now old new result → Ends Due counts old new result
+ends_answer Due counts old new s result t k d (inl (er, en)) = subst (Ends Due counts old new) (sym er) (adds Due counts old new s t k d en)
+ends_answer Due counts old new s result t k d (inr (er, rose, front)) = subst (Ends Due counts old new) (sym er) (rose, inr (s, t, inl d, front))
+
+-- the line of a read fault was written, or a prefix of it
+pub ends_read : (Due : Status → List ℕ → Type 0) (counts : Counts) (old new : Option (List ℕ)) (result : Status) → Rose counts.reads_before counts.reads_now →
+    Finishes ReadFault read_fault_line counts.writes_before counts.writes_now old new result → Ends Due counts old new result
+ends_read Due counts old new result rose (inl (er, en)) = subst (Ends Due counts old new) (sym er) (read_fault_line, (rose, refl, refl), en)
+ends_read Due counts old new result rose (inr (er, wrote, front)) = subst (Ends Due counts old new) (sym er) (wrote, inr (ReadFault, read_fault_line, inr (rose, refl, refl), front))

@@ -1,0 +1,23 @@
+-- The commands, and the words that are one
+use Rattle.std.specs.Prelude.{ℕ, codes, List, [], ◌∷◌, ◌&&◌, nat_le, Option, Some, None, if◌then◌else◌}
+use Rattle.std.specs.Str.{bytes_eq}
+use Rattle.ttw_text.specs.Numbers.{number_of}
+
+-- a command with the names of its files and its numbers, or none
+pub data Command : Type 0 where
+  plan : List ℕ → ℕ → Command
+  none : Command
+
+-- plans for a mode file within a budget from 1 to 100,000
+abbrev pub plan_within : List ℕ → Option ℕ → Command
+plan_within file None = none
+plan_within file (Some budget) = if nat_le 1 budget && nat_le budget 100000 then plan file budget else none
+
+-- the command of three words
+abbrev pub of_three : List ℕ → List ℕ → List ℕ → Command
+of_three verb file last = if bytes_eq verb (codes "plan") then plan_within file (number_of last) else none
+
+-- the command of any words
+abbrev pub command : List (List ℕ) → Command
+command (verb ∷ file ∷ last ∷ []) = of_three verb file last
+command _ = none

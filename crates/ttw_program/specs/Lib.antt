@@ -1,0 +1,5 @@
+pub mod Statuses
+pub mod FaultLines
+pub mod Endings
+pub mod Commands
+pub mod Due

@@ -1,0 +1,52 @@
+//! The lines that tell why a command is refused.
+
+ghost use Rattle.std.specs.Prelude.{◌≡◌, ◌++◌, IfOk};
+ghost use Rattle.ttw_program.specs.FaultLines as lines;
+ghost use Rattle.ttw_program.specs.FaultLines.{said};
+
+use mode_file::FileFault;
+use std::alloc::{AllocError, Global};
+use ttw_text::Out;
+
+/// The line of words that are no command.
+pub(crate) const USAGE: &str = "usage: plan FILE BUDGET, check FILE PLAN, tables FILE PLAN NODE, replay FILE PLAN SCRIPT, drill SEED\n";
+
+/// The line of a file that was not read.
+pub(crate) const READ_FAULT: &str = "read fault\n";
+
+/// The line of a mode file whose plans are not built yet.
+pub(crate) const NOT_BUILT: &str = "modes: not built\n";
+
+/// What is said of a refused mode file: some words, and the key or name that they speak of.
+fn said_of(fault: &FileFault) -> (&'static str, &[u8])
+    ensures { result.0.now ++ result.1.now ≡ said fault.now }
+{
+    match fault {
+        FileFault::TooLong => ("too long", &[]),
+        FileFault::NotToml => ("not TOML", &[]),
+        FileFault::Missing(key) => ("missing ", key.text().as_bytes()),
+        FileFault::WrongKind(key) => ("wrong kind ", key.text().as_bytes()),
+        FileFault::UnknownKey(key) => ("unknown key ", key.as_bytes()),
+        FileFault::OutOfRange(key) => ("out of range ", key.text().as_bytes()),
+        FileFault::Repeated(name) => ("repeated ", name.as_bytes()),
+        FileFault::Unknown(name) => ("unknown ", name.as_bytes()),
+        FileFault::TwoSenders(name) => ("two senders ", name.as_bytes()),
+        FileFault::Cycle(name) => ("cycle ", name.as_bytes()),
+        FileFault::DeadlineLong(name) => ("deadline ", name.as_bytes()),
+        FileFault::TooMany(key) => ("too many ", key.text().as_bytes()),
+        FileFault::Memory => ("", &[]),
+    }
+}
+
+/// The line of a refused mode file.
+pub(crate) fn file_fault_line(alloc: Global, fault: &FileFault) -> Result<Out, AllocError>
+    ensures { IfOk result (λ out. out ≡ lines.file_fault_line fault.now) }
+{
+    let (words, named) = said_of(fault);
+    let mut out = Out::make(alloc);
+    out.put(b"modes: ")?;
+    out.put(words.as_bytes())?;
+    out.put(named)?;
+    out.line_end()?;
+    Ok(out)
+}

@@ -1,0 +1,49 @@
+//! The program: plans for time-triggered wireless control.
+#![tactic(auto)]
+
+mod answers;
+mod ending;
+mod fault_lines;
+mod planning;
+mod program;
+mod status;
+#[cfg(test)]
+mod tests;
+
+pub use program::run;
+pub use status::Status;
+
+use std::alloc::AllocError;
+use std::env;
+use std::io::ErrorKind;
+use std::process::ExitCode;
+use ttw_io::{DiskFiles, StdSink};
+
+/// The words after the program's name. Where one is not text there are none.
+fn words(rt: &HostRuntime) -> Result<Vec<String>, AllocError> {
+    match env::args(rt) {
+        Ok(args) => args.skip(1).collect(rt.alloc()),
+        Err(error) => {
+            if error.kind() == ErrorKind::OutOfMemory {
+                Err(AllocError)
+            } else {
+                Ok(Vec::new(rt.alloc()))
+            }
+        }
+    }
+}
+
+/// Does what the words of the command line say, over the files of the machine and standard output.
+fn run_words(rt: HostRuntime) -> Result<Status, AllocError> {
+    let alloc = rt.alloc();
+    let words = words(&rt)?;
+    let words: Vec<&str> = words.iter().map(|word| word.as_str()).collect(alloc)?;
+    let mut files = DiskFiles::make(alloc, rt.clone()?)?;
+    let mut out = StdSink::make(rt);
+    Ok(run(alloc, words.as_slice(), &mut files, &mut out))
+}
+
+fn main(rt: HostRuntime) -> ExitCode {
+    let status = run_words(rt).unwrap_or(Status::Memory);
+    ExitCode::from(status.code())
+}

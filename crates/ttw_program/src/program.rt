@@ -1,0 +1,85 @@
+//! The top call.
+
+ghost use Rattle.std.specs.Prelude.{◌≡◌, ◌≤◌, List, map, IfOk, IsErrOf};
+ghost use Rattle.ttw_io.specs.Outside.{Rose, OfFile};
+ghost use Rattle.ttw_text.specs.Numbers.{number_of};
+ghost use Rattle.ttw_program.specs.Endings.{Ends};
+ghost use Rattle.ttw_program.specs.Commands.{command, of_three, plan_within};
+ghost use Rattle.ttw_program.specs.Due.{Due, OfCommand, IsUsage};
+
+use crate::answers::{Answer, End};
+use crate::ending::finish;
+use crate::fault_lines::{READ_FAULT, USAGE};
+use crate::planning::answer_plan;
+use crate::status::Status;
+use std::alloc::Global;
+use ttw_io::{Files, Sink};
+use ttw_text::read_u64;
+
+/// The greatest budget of a search.
+const MOST_BUDGET: u64 = 100_000;
+
+/// The answer to words that are no command.
+fn usage(alloc: Global) -> Result<Answer, End>
+    ensures due { IfOk result (λ a. IsUsage a.status a.text) }
+    ensures read { IsErrOf result End.Read → ⊥ }
+{
+    Ok(Answer::told(alloc, Status::Usage, USAGE)?)
+}
+
+/// The answer to `plan FILE BUDGET`.
+fn plan_words<F: Files>(alloc: Global, file: &str, budget: &str, files: &mut F) -> Result<Answer, End>
+    ensures due { IfOk result (λ a. OfCommand (plan_within file.now (number_of budget.now)) (F.contents files.old) a.status a.text) }
+    ensures read { IsErrOf result End.Read → Rose (F.faults files.old) (F.faults files.new) }
+    ensures counted { F.faults files.old ≤ F.faults files.new }
+{
+    match read_u64(budget.as_bytes()) {
+        None => usage(alloc),
+        Some(budget) => {
+            if budget >= 1 && budget <= MOST_BUDGET {
+                answer_plan(alloc, file, files)
+            } else {
+                usage(alloc)
+            }
+        }
+    }
+}
+
+/// The answer to three words.
+fn three_words<F: Files>(alloc: Global, verb: &str, file: &str, last: &str, files: &mut F) -> Result<Answer, End>
+    ensures due { IfOk result (λ a. OfCommand (of_three verb.now file.now last.now) (F.contents files.old) a.status a.text) }
+    ensures read { IsErrOf result End.Read → Rose (F.faults files.old) (F.faults files.new) }
+    ensures counted { F.faults files.old ≤ F.faults files.new }
+{
+    if verb == "plan" { plan_words(alloc, file, last, files) } else { usage(alloc) }
+}
+
+/// The answer to the words.
+fn answer_words<F: Files>(alloc: Global, words: &[&str], files: &mut F) -> Result<Answer, End>
+    ensures due { IfOk result (λ a. Due (map (λ w. w.now) words.now) (F.contents files.old) a.status a.text) }
+    ensures read { IsErrOf result End.Read → Rose (F.faults files.old) (F.faults files.new) }
+    ensures counted { F.faults files.old ≤ F.faults files.new }
+{
+    match words {
+        [] => usage(alloc),
+        [_] => usage(alloc),
+        [_, _] => usage(alloc),
+        [verb, file, last] => three_words(alloc, verb, file, last, files),
+        [_, _, _, _, ..] => usage(alloc),
+    }
+}
+
+/// Does what the words say, writes its text or the line that tells why not, and gives the status.
+///
+/// `docs/COMMANDS.md` lists the commands, their texts, the statuses and when each comes.
+pub fn run<F: Files, S: Sink>(alloc: Global, words: &[&str], files: &mut F, out: &mut S) -> Status
+    ensures end { Ends (Due (map (λ w. w.now) words.now) (F.contents files.old)) (record { reads_before = F.faults files.old; reads_now = F.faults files.new; writes_before = S.faults out.old; writes_now = S.faults out.new }) (S.held out.old) (S.held out.new) result }
+    ensures reads { F.faults files.old ≤ F.faults files.new }
+    ensures writes { S.faults out.old ≤ S.faults out.new }
+{
+    match answer_words(alloc, words, files) {
+        Ok(answer) => finish(out, answer.status, answer.text.bytes()),
+        Err(End::Read) => finish(out, Status::ReadFault, READ_FAULT.as_bytes()),
+        Err(End::Memory) => Status::Memory,
+    }
+}
