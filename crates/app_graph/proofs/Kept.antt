@@ -1,5 +1,5 @@
 -- What a mode set has that keeps the rules
-use Rattle.std.proofs.Common.{◌≡◌, ℕ, ◌+◌, ◌<◌, ◌≤◌, Bool, true, false, List, [], ◌∷◌, ◌++◌, length, sum_by, Some, None, refl, arith, ℤ, pos, ◌≤ℤ◌, ◌<ℤ◌, length-append, nat_lt, nat_le, int_le, All}
+use Rattle.std.proofs.Common.{◌≡◌, ℕ, suc, ◌+◌, ◌*◌, ◌<◌, ◌≤◌, Bool, true, false, cond, ◌&&◌, List, [], ◌∷◌, ◌++◌, length, sum_by, Some, None, refl, sym, ◌∙◌, ap, subst, arith, ℤ, pos, ◌≤ℤ◌, ◌<ℤ◌, length-append, nat_lt, nat_le, int_le, All}
 use Rattle.std.specs.List.{flat_map, AllByRecursion}
 use Rattle.std.proofs.lemmas.Bool.{and_parts}
 use Rattle.std.proofs.lemmas.List.Elements.{All-from_recursion}
@@ -8,6 +8,7 @@ use Rattle.std.proofs.lemmas.List.Sums.{sum_by_push, sum_by-cons, sum_by-le}
 use Rattle.std.proofs.lemmas.Int.{ints}
 use borrow.Author.Differences.{le-true}
 use borrow.Author.Tests.{ltb-true, leb-true}
+use Rattle.app_graph.specs.declared.faults.GraphFault.{GraphFault}
 use Rattle.app_graph.specs.declared.faults.GraphFault.TheVariants.{OutOfRange, TooMany}
 use Rattle.app_graph.specs.declared.keys.Key.TheVariants.{KTask, KMessage, KPeriod, KRound, KMode, KNodes, KSlots}
 use Rattle.app_graph.specs.declared.raw.RawTask.{RawTask}
