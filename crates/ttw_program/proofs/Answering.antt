@@ -69,14 +69,14 @@ of_longer (file all) bytes Due s t l es et = inl (TooLong, too_long all l.0, es,
 -- the parts of one more mode
 pub each_more : (set : ModeSet) (n : ℕ) (parts new : List ModePart) (part : ModePart) → EachPart set n parts → new ≡ parts ++ part ∷ [] → IsPart (plain_at set n) part → EachPart set (n + 1) new
 each_more set n parts new part each e is = record {
-    count = ap length e ∙ length_push parts part ∙ ap (λ k. k + 1) each.count;
-    is = λ i none l. ⊎_elim
+  count = ap length e ∙ length_push parts part ∙ ap (λ k. k + 1) each.count;
+  is = λ i none l. ⊎_elim
       (λ (less : i < n). subst (IsPart (plain_at set i)) (sym (ap (λ ps. get_or ps i none) e ∙ get_or_append_left parts (part ∷ []) none i (omega (arith, less, each.count)))) (each.is i none less))
       (λ (le : n ≤ i). at_end i none (omega (arith, le, l)))
       (cases_lt i n);
-  }
+}
   where
     at_end : (i : ℕ) (none : ModePart) → i ≡ n → IsPart (plain_at set i) (get_or new i none)
     at_end i none same =
-      let here : get_or new i none ≡ part = ap (λ ps. get_or ps i none) e ∙ get_or_at parts part [] none i (each.count ∙ sym same) in
-      subst (IsPart (plain_at set i)) (sym here) (subst (λ (k : ℕ). IsPart (plain_at set k) part) (sym same) is)
+        let here : get_or new i none ≡ part = ap (λ ps. get_or ps i none) e ∙ get_or_at parts part [] none i (each.count ∙ sym same) in
+        subst (IsPart (plain_at set i)) (sym here) (subst (λ (k : ℕ). IsPart (plain_at set k) part) (sym same) is)

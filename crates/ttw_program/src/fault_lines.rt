@@ -9,7 +9,8 @@ use std::alloc::{AllocError, Global};
 use ttw_text::Out;
 
 /// The line of words that are no command.
-pub(crate) const USAGE: &str = "usage: plan FILE BUDGET, check FILE PLAN, tables FILE PLAN NODE, replay FILE PLAN SCRIPT, drill SEED\n";
+pub(crate) const USAGE: &str =
+    "usage: plan FILE BUDGET, check FILE PLAN, tables FILE PLAN NODE, replay FILE PLAN SCRIPT, drill SEED\n";
 
 /// The line of a file that was not read.
 pub(crate) const READ_FAULT: &str = "read fault\n";

@@ -12,7 +12,6 @@ mod tests;
 
 pub use program::run;
 pub use status::Status;
-
 use std::alloc::AllocError;
 use std::env;
 use std::io::ErrorKind;

@@ -28,7 +28,12 @@ fn usage(alloc: Global) -> Result<Answer, End>
 }
 
 /// The answer to `plan FILE BUDGET`.
-fn plan_words<F: Files>(alloc: Global, file: &str, budget: &str, files: &mut F) -> Result<Answer, End>
+fn plan_words<F: Files>(
+    alloc: Global,
+    file: &str,
+    budget: &str,
+    files: &mut F,
+) -> Result<Answer, End>
     ensures due { IfOk result (λ a. OfCommand (plan_within file.now (number_of budget.now)) (F.contents files.old) a.status a.text) }
     ensures read { IsErrOf result End.Read → Rose (F.faults files.old) (F.faults files.new) }
     ensures counted { F.faults files.old ≤ F.faults files.new }
@@ -46,12 +51,22 @@ fn plan_words<F: Files>(alloc: Global, file: &str, budget: &str, files: &mut F) 
 }
 
 /// The answer to three words.
-fn three_words<F: Files>(alloc: Global, verb: &str, file: &str, last: &str, files: &mut F) -> Result<Answer, End>
+fn three_words<F: Files>(
+    alloc: Global,
+    verb: &str,
+    file: &str,
+    last: &str,
+    files: &mut F,
+) -> Result<Answer, End>
     ensures due { IfOk result (λ a. OfCommand (of_three verb.now file.now last.now) (F.contents files.old) a.status a.text) }
     ensures read { IsErrOf result End.Read → Rose (F.faults files.old) (F.faults files.new) }
     ensures counted { F.faults files.old ≤ F.faults files.new }
 {
-    if verb == "plan" { plan_words(alloc, file, last, files) } else { usage(alloc) }
+    if verb == "plan" {
+        plan_words(alloc, file, last, files)
+    } else {
+        usage(alloc)
+    }
 }
 
 /// The answer to the words.

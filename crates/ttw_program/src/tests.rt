@@ -4,17 +4,27 @@ use std::test::Fail;
 use ttw_io::{MemFiles, MemSink};
 
 /// One task with a period of 100 ticks, in rounds of 10 with gaps of 40.
-const BLINK: &str = "slots = 2\nround = 10\ngap = 40\nhost = \"n0\"\nnodes = [\"n0\", \"n1\"]\n[[mode]]\nname = \"run\"\n[[mode.app]]\nname = \"lamp\"\nperiod = 100\ndeadline = 100\n[[mode.app.task]]\nname = \"blink\"\nnode = \"n1\"\nwcet = 3\n";
+const BLINK: &str =
+    "slots = 2\nround = 10\ngap = 40\nhost = \"n0\"\nnodes = [\"n0\", \"n1\"]\n[[mode]]\nname = \"run\"\n[[mode.app]]\nname = \"lamp\"\nperiod = 100\ndeadline = 100\n[[mode.app.task]]\nname = \"blink\"\nnode = \"n1\"\nwcet = 3\n";
 
 /// The files with this one, whose numbered reads fail.
 fn files_with(alloc: Global, text: &str, fail: &[u64]) -> Result<MemFiles, Fail> {
     let mut files = Vec::new(alloc);
-    files.push(("blink.toml".to_string(alloc)?, text.as_bytes().to_vec(alloc)?))?;
+    files.push((
+        "blink.toml".to_string(alloc)?,
+        text.as_bytes().to_vec(alloc)?,
+    ))?;
     Ok(MemFiles::make(files, fail.to_vec(alloc)?))
 }
 
 /// The status and the text of these words over a file, where the numbered reads and writes fail.
-fn answer(alloc: Global, words: &[&str], text: &str, reads: &[u64], writes: &[u64]) -> Result<(Status, Vec<u8>), Fail> {
+fn answer(
+    alloc: Global,
+    words: &[&str],
+    text: &str,
+    reads: &[u64],
+    writes: &[u64],
+) -> Result<(Status, Vec<u8>), Fail> {
     let mut files = files_with(alloc, text, reads)?;
     let mut out = MemSink::make(alloc, 4096, 8, writes.to_vec(alloc)?)?;
     let status = run(alloc, words, &mut files, &mut out);
@@ -25,14 +35,23 @@ fn answer(alloc: Global, words: &[&str], text: &str, reads: &[u64], writes: &[u6
 fn one_task_plan(rt: HostRuntime) -> Result<(), Fail> {
     let (status, text) = answer(rt.alloc(), &["plan", "blink.toml", "10"], BLINK, &[], &[])?;
     assert!(rt; status == Status::Done);
-    assert_eq!(rt; text.as_slice(), b"ttw 1\nmode run\nschedule 3\nstart 0 20 60\ntask blink 0\ntable 1\ntable 2\ntable 3\nend\n".as_slice());
+    assert_eq!(rt;
+        text.as_slice(),
+        b"ttw 1\nmode run\nschedule 3\nstart 0 20 60\ntask blink 0\ntable 1\ntable 2\ntable 3\nend\n".as_slice()
+    );
     Ok(())
 }
 
 #[test]
 fn wcet_above_deadline(rt: HostRuntime) -> Result<(), Fail> {
     let text = BLINK.replace(rt.alloc(), "deadline = 100", "deadline = 2")?;
-    let (status, text) = answer(rt.alloc(), &["plan", "blink.toml", "10"], text.as_str(), &[], &[])?;
+    let (status, text) = answer(
+        rt.alloc(),
+        &["plan", "blink.toml", "10"],
+        text.as_str(),
+        &[],
+        &[],
+    )?;
     assert!(rt; status == Status::NoSchedule);
     assert_eq!(rt; text.as_slice(), b"ttw 1\nmode run\nnone\nend\n".as_slice());
     Ok(())
@@ -40,11 +59,19 @@ fn wcet_above_deadline(rt: HostRuntime) -> Result<(), Fail> {
 
 #[test]
 fn usage_lines(rt: HostRuntime) -> Result<(), Fail> {
-    let words: [&[&str]; 4] = [&["plan", "blink.toml", "0"], &["plan", "blink.toml"], &[], &["plan", "blink.toml", "100001"]];
+    let words: [&[&str]; 4] = [
+        &["plan", "blink.toml", "0"],
+        &["plan", "blink.toml"],
+        &[],
+        &["plan", "blink.toml", "100001"],
+    ];
     for each in words {
         let (status, text) = answer(rt.alloc(), each, BLINK, &[], &[])?;
         assert!(rt; status == Status::Usage);
-        assert_eq!(rt; text.as_slice(), b"usage: plan FILE BUDGET, check FILE PLAN, tables FILE PLAN NODE, replay FILE PLAN SCRIPT, drill SEED\n".as_slice());
+        assert_eq!(rt;
+            text.as_slice(),
+            b"usage: plan FILE BUDGET, check FILE PLAN, tables FILE PLAN NODE, replay FILE PLAN SCRIPT, drill SEED\n".as_slice()
+        );
     }
     Ok(())
 }

@@ -17,7 +17,7 @@ returns-in-Ok-clause-end g c =
     let d = c.in-Ok.ensures.due in
     let f = subst (λ (text : List ℕ). Finishes c.in-Ok.answer.status text counts.writes_before counts.writes_now old new c.finish.result) c.bytes.ensures c.finish.ensures.end in
     ends_answer (Due words told) counts old new c.in-Ok.answer.status c.finish.result c.in-Ok.answer.text
-      (due_answered (command words) told c.in-Ok.answer.status c.in-Ok.answer.text d) d f
+    (due_answered (command words) told c.in-Ok.answer.status c.in-Ok.answer.text d) d f
 
 pub returns-in-Err-Read-clause-end : goal.returns-in-Err-Read-clause-end
 returns-in-Err-Read-clause-end g c =
