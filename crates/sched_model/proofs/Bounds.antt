@@ -126,7 +126,7 @@ module _ (m : PlainMode) (r : ℕ) (ok : IsValid m) (lim : IsLimited m) (some : 
         let msg = message_at m i in (pos 1 ≤ℤ get_or p (place m i 0) (pos 0)) × (get_or p (place m i 0) (pos 0) ≤ℤ pos (r * ((msg.period + msg.deadline) / hyper m + 1)))
     first_bounds i li lk l = let msg = message_at m i in span_bounds (pos 1) (pos (r * ((msg.period + msg.deadline) / hyper m + 1))) (get_or p (place m i 0) (pos 0)) (among i 0 li lk l)
 
-    serve_bounds : (i k : ℕ) → i < length m.messages → k < instance_count m (message_at m i) → place m i k < length p →
+    pub serve_bounds : (i k : ℕ) → i < length m.messages → k < instance_count m (message_at m i) → place m i k < length p →
         let msg = message_at m i in (pos 1 ≤ℤ get_or p (place m i k) (pos 0)) × (get_or p (place m i k) (pos 0) ≤ℤ (pos (r * ((msg.period + msg.deadline) / hyper m + 1)) +ℤ pos r))
     serve_bounds i zero li lk l = let b = first_bounds i li lk l in (b.0, omega (arith, ints, b.1))
     serve_bounds i (suc k) li lk l =
