@@ -13,3 +13,4 @@ pub mod LineReading
 pub mod TextReading
 pub mod TreeStanding
 pub mod DistinctNames
+pub mod PartsStanding
