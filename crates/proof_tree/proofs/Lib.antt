@@ -14,3 +14,4 @@ pub mod TextReading
 pub mod TreeStanding
 pub mod DistinctNames
 pub mod PartsStanding
+pub mod OwnParts

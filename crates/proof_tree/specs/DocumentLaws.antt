@@ -18,6 +18,7 @@ use Rattle.proof_tree.specs.Accepting.{doc_modes, Accepts, items_of, limit, long
 use Rattle.proof_tree.specs.Reading.{Refusal}
 use Rattle.proof_tree.specs.Refusing.{Refuses}
 use Rattle.proof_tree.specs.Fewest.{IsBest}
+use Rattle.proof_tree.specs.OwnDocument.{OwnPart, OwnDoc}
 
 -- one has the property, and no other
 abbrev pub HasOne : {A : Type 0} → (A → Type 0) → Type 0
@@ -70,3 +71,9 @@ pub record IsRightPart (set : ModeSet) (mode : Mode) (part : ModePart) : Type 0 
 abbrev pub RightPartsAreAccepted : Type 0
 RightPartsAreAccepted = (set : ModeSet) (parts : List ModePart) → KeepsRules set → AllZip (IsRightPart set) set.modes parts →
     AllByRecursion HasRoom (plan_items set parts) → length (plan_text set parts) ≤ limit → Accepts set (plan_text set parts) (map (λ part. part.schedule) parts)
+
+-- own parts are right, and make a document of the search where it is within the limits
+abbrev pub OwnPartsMakeDocuments : Type 0
+OwnPartsMakeDocuments = (set : ModeSet) (parts : List ModePart) → KeepsRules set → AllZip (OwnPart set) set.modes parts →
+    AllZip (IsRightPart set) set.modes parts
+    × (AllByRecursion HasRoom (plan_items set parts) → length (plan_text set parts) ≤ limit → OwnDoc set (plan_text set parts))

@@ -1,6 +1,6 @@
 //! Laws of plan documents.
 
-ghost use Rattle.proof_tree.specs.DocumentLaws.{AcceptedAreBest, ListsStand, OneAnswers, RightPartsAreAccepted, TextsAreRead, TreesStand};
+ghost use Rattle.proof_tree.specs.DocumentLaws.{AcceptedAreBest, ListsStand, OneAnswers, OwnPartsMakeDocuments, RightPartsAreAccepted, TextsAreRead, TreesStand};
 ghost use Rattle.proof_tree.specs.Spelled.{LinesAreExact};
 
 /// A line is read as a meaning exactly where it is the one spelling of that meaning.
@@ -38,4 +38,10 @@ pub fn lists_stand()
 /// the limits on lines and bytes.
 pub fn right_parts_are_accepted()
     ensures { RightPartsAreAccepted }
+{}
+
+/// The parts that the search makes are right, so their document is one of the search and accepted,
+/// where it is within the limits on lines and bytes.
+pub fn own_parts_make_documents()
+    ensures { OwnPartsMakeDocuments }
 {}
