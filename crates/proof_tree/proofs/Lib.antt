@@ -13,3 +13,5 @@ pub mod LineReading
 pub mod TextReading
 pub mod TreeStanding
 pub mod DistinctNames
+pub mod PartsStanding
+pub mod OwnParts

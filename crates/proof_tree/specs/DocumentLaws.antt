@@ -1,13 +1,16 @@
 -- Laws of plan documents.
-use Rattle.std.specs.Prelude.{◌≡◌, ℕ, ◌≤◌, ◌⊎◌, true, List, ◌∷◌, ◌++◌, length, map, Option, Some, ⊤, [], ◌+◌}
+use Rattle.std.specs.Prelude.{◌≡◌, ℕ, ◌≤◌, ◌⊎◌, true, List, ◌∷◌, ◌++◌, length, map, Option, Some, None, ⊤, [], ◌+◌}
 use Rattle.std.specs.List.{AllZip, AllByRecursion, join_with_byte, flat_map, enumerate_from}
 use Rattle.app_graph.specs.declared.mode_set.ModeSet.{ModeSet}
+use Rattle.app_graph.specs.declared.mode_set.Mode.{Mode}
 use Rattle.app_graph.specs.Validation.{KeepsRules}
-use Rattle.sched_model.specs.PlainMode.{PlainMode}
+use Rattle.sched_model.specs.PlainMode.{PlainMode, most_rounds, plain_mode}
+use Rattle.sched_model.specs.RightSchedule.{IsSchedule}
 use Rattle.sched_model.specs.declared.schedule.Schedule.{Schedule}
 use Rattle.sched_model.specs.RefutationTree.{ValidTree}
 use Rattle.proof_tree.specs.declared.tree.Tree.{Tree}
-use Rattle.proof_tree.specs.PlanText.{tree_items, refuted_items}
+use Rattle.proof_tree.specs.declared.tree.ModePart.{ModePart}
+use Rattle.proof_tree.specs.PlanText.{tree_items, refuted_items, plan_items, plan_text}
 use Rattle.proof_tree.specs.TreeLines.{Items, TreeStands, TreesFrom}
 use Rattle.proof_tree.specs.Items.{Item, first_word, other_words, text_of}
 use Rattle.proof_tree.specs.Spelled.{is_writable}
@@ -15,6 +18,7 @@ use Rattle.proof_tree.specs.Accepting.{doc_modes, Accepts, items_of, limit, long
 use Rattle.proof_tree.specs.Reading.{Refusal}
 use Rattle.proof_tree.specs.Refusing.{Refuses}
 use Rattle.proof_tree.specs.Fewest.{IsBest}
+use Rattle.proof_tree.specs.OwnDocument.{OwnPart, OwnDoc}
 
 -- one has the property, and no other
 abbrev pub HasOne : {A : Type 0} → (A → Type 0) → Type 0
@@ -52,3 +56,24 @@ TreesStand = (m : PlainMode) (r : ℕ) (tree : Tree) (rest : Items) → ValidTre
 abbrev pub ListsStand : Type 0
 ListsStand = (m : PlainMode) (r : ℕ) (trees : List Tree) (rest : Items) → ValidTreesFrom m r trees →
     TreesFrom m r (length trees) (map (λ item. Some item) (flat_map refuted_items (enumerate_from r trees)) ++ rest) rest
+
+-- r rounds are due: a right schedule of r rounds, or none, where there is room for fewer than r
+abbrev pub RightAnswer : PlainMode → ℕ → Option Schedule → Type 0
+RightAnswer m r None = r ≡ most_rounds m + 1
+RightAnswer m r (Some s) = IsSchedule m r s
+
+-- a mode's part: valid trees for 1 round, 2 rounds and so on, and the answer for the next number
+pub record IsRightPart (set : ModeSet) (mode : Mode) (part : ModePart) : Type 0 where
+  pub trees : ValidTreesFrom (plain_mode set mode) 1 part.refuted
+  pub answer : RightAnswer (plain_mode set mode) (length part.refuted + 1) part.schedule
+
+-- the document of right parts is accepted with their schedules, where it is within the limits
+abbrev pub RightPartsAreAccepted : Type 0
+RightPartsAreAccepted = (set : ModeSet) (parts : List ModePart) → KeepsRules set → AllZip (IsRightPart set) set.modes parts →
+    AllByRecursion HasRoom (plan_items set parts) → length (plan_text set parts) ≤ limit → Accepts set (plan_text set parts) (map (λ part. part.schedule) parts)
+
+-- own parts are right, and make a document of the search where it is within the limits
+abbrev pub OwnPartsMakeDocuments : Type 0
+OwnPartsMakeDocuments = (set : ModeSet) (parts : List ModePart) → KeepsRules set → AllZip (OwnPart set) set.modes parts →
+    AllZip (IsRightPart set) set.modes parts
+    × (AllByRecursion HasRoom (plan_items set parts) → length (plan_text set parts) ≤ limit → OwnDoc set (plan_text set parts))

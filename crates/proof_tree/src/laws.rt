@@ -1,6 +1,6 @@
 //! Laws of plan documents.
 
-ghost use Rattle.proof_tree.specs.DocumentLaws.{AcceptedAreBest, ListsStand, OneAnswers, TextsAreRead, TreesStand};
+ghost use Rattle.proof_tree.specs.DocumentLaws.{AcceptedAreBest, ListsStand, OneAnswers, OwnPartsMakeDocuments, RightPartsAreAccepted, TextsAreRead, TreesStand};
 ghost use Rattle.proof_tree.specs.Spelled.{LinesAreExact};
 
 /// A line is read as a meaning exactly where it is the one spelling of that meaning.
@@ -32,4 +32,16 @@ pub fn trees_stand()
 /// The lines of valid trees, each behind the line with its number of rounds, stand for them.
 pub fn lists_stand()
     ensures { ListsStand }
+{}
+
+/// The document of right parts of all modes is accepted with their schedules, where it is within
+/// the limits on lines and bytes.
+pub fn right_parts_are_accepted()
+    ensures { RightPartsAreAccepted }
+{}
+
+/// The parts that the search makes are right, so their document is one of the search and accepted,
+/// where it is within the limits on lines and bytes.
+pub fn own_parts_make_documents()
+    ensures { OwnPartsMakeDocuments }
 {}
