@@ -15,3 +15,4 @@ pub mod TreeStanding
 pub mod DistinctNames
 pub mod PartsStanding
 pub mod OwnParts
+pub mod LineRoom

@@ -1,6 +1,6 @@
 //! Laws of plan documents.
 
-ghost use Rattle.proof_tree.specs.DocumentLaws.{AcceptedAreBest, ListsStand, OneAnswers, OwnPartsMakeDocuments, RightPartsAreAccepted, TextsAreRead, TreesStand};
+ghost use Rattle.proof_tree.specs.DocumentLaws.{AcceptedAreBest, ListsStand, OneAnswers, OwnPartsMakeDocuments, OwnTreesHaveRoom, RightPartsAreAccepted, TextsAreRead, TreesStand};
 ghost use Rattle.proof_tree.specs.Spelled.{LinesAreExact};
 
 /// A line is read as a meaning exactly where it is the one spelling of that meaning.
@@ -44,4 +44,9 @@ pub fn right_parts_are_accepted()
 /// where it is within the limits on lines and bytes.
 pub fn own_parts_make_documents()
     ensures { OwnPartsMakeDocuments }
+{}
+
+/// Each line of a tree that the search makes is within the limits.
+pub fn own_trees_have_room()
+    ensures { OwnTreesHaveRoom }
 {}
