@@ -14,5 +14,6 @@ pub mod TextReading
 pub mod TreeStanding
 pub mod DistinctNames
 pub mod PartsStanding
-pub mod OwnParts
 pub mod LineRoom
+pub mod GoodNames
+pub mod OwnParts

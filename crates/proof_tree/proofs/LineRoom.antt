@@ -22,28 +22,28 @@ use Rattle.proof_tree.specs.PlanText.{node_item, stored_item}
 use Rattle.proof_tree.specs.DocumentLaws.{HasRoom, OwnTreesHaveRoom}
 
 -- a line of short words is as long as its first word and they are at most
-joined_length : (c : ℕ) (w : List ℕ) (ws : List (List ℕ)) → AllByRecursion (λ v. length v < c) ws → length (join_with_byte 32 (w ∷ ws)) ≤ length w + length ws * c
+pub joined_length : (c : ℕ) (w : List ℕ) (ws : List (List ℕ)) → AllByRecursion (λ v. length v < c) ws → length (join_with_byte 32 (w ∷ ws)) ≤ length w + length ws * c
 joined_length c w [] h = omega arith
 joined_length c w (v ∷ vs) h = omega (arith, length-append w (32 ∷ join_with_byte 32 (v ∷ vs)), joined_length c v vs h.1, h.0)
 
-spelled_short : (n : ℕ) → n ≤ 65536 → length (spelled n) < 6
+pub spelled_short : (n : ℕ) → n ≤ 65536 → length (spelled n) < 6
 spelled_short n h = let l : length (spelled n) ≤ 5 = length-spelled-le 5 n (omega arith) (omega (arith, h)) (omega (arith, h)) in omega (arith, l)
 
 numbers_short : (ns : List ℕ) → AllByRecursion (λ n. n < 65536) ns → AllByRecursion (λ v. length v < 6) (map spelled ns)
 numbers_short [] h = tt
 numbers_short (n ∷ ns) h = (spelled_short n (omega (arith, h.0)), numbers_short ns h.1)
 
-both_true : (a b : Bool) → a ≡ true → b ≡ true → (a && b) ≡ true
+pub both_true : (a b : Bool) → a ≡ true → b ≡ true → (a && b) ≡ true
 both_true a b e f = rw (e, f) refl
 
-number_fits : (n : ℕ) → n ≤ 65536 → fits n ≡ true
+pub number_fits : (n : ℕ) → n ≤ 65536 → fits n ≡ true
 number_fits n h = le-leb n greatest (omega (arith, h))
 
 numbers_fit : (ns : List ℕ) → AllByRecursion (λ n. n < 65536) ns → list_all fits ns ≡ true
 numbers_fit [] h = refl
 numbers_fit (n ∷ ns) h = both_true (fits n) (list_all fits ns) (number_fits n (omega (arith, h.0))) (numbers_fit ns h.1)
 
-refute_room : (r : ℕ) → r ≤ 256 → HasRoom (Refute r)
+pub refute_room : (r : ℕ) → r ≤ 256 → HasRoom (Refute r)
 refute_room r le = record {
   writable = number_fits r (omega (arith, le));
   short = let l = joined_length 6 (codes "refute") (spelled r ∷ []) (spelled_short r (omega (arith, le)), tt) in let six : length (codes "refute") ≡ 6 = refl in omega (arith, l, six);
