@@ -16,4 +16,5 @@ pub mod DistinctNames
 pub mod PartsStanding
 pub mod LineRoom
 pub mod GoodNames
+pub mod ScheduleRoom
 pub mod OwnParts
