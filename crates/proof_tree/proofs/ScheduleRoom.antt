@@ -1,4 +1,4 @@
--- The lines of right schedules, and of documents of own parts, are within the limits.
+-- The lines of right schedules are within the limits.
 use Rattle.std.proofs.Common.{◌≡◌, ℕ, ◌+◌, ◌<◌, ◌≤◌, true, ◌&&◌, ltb, leb, ℤ, pos, negsuc, List, [], ◌∷◌, ◌++◌, length, map, All, Contains, refl, sym, subst, arith}
 use Rattle.std.specs.Prelude.{codes, unsigned_abs}
 use Rattle.std.specs.List.{AllByRecursion, list_all, zip, enumerate_from}
@@ -38,7 +38,7 @@ spelled_time n h = let l : length (spelled n) ≤ 13 = length-spelled-le 13 n (o
 time_fits : (n : ℕ) → n ≤ 2000000000000 → fits n ≡ true
 time_fits n h = le-leb n greatest (omega (arith, h))
 
-name_short : (text : List ℕ) → IsName text → length text < 33
+pub name_short : (text : List ℕ) → IsName text → length text < 33
 name_short text h =
     let n = length text in
     let w = and_parts (leb 1 n && leb n 32) (list_all is_name_byte text) h in

@@ -78,8 +78,9 @@ abbrev pub RightPartsAreAccepted : Type 0
 RightPartsAreAccepted = (set : ModeSet) (parts : List ModePart) → KeepsRules set → AllZip (IsRightPart set) set.modes parts →
     AllByRecursion HasRoom (plan_items set parts) → length (plan_text set parts) ≤ limit → Accepts set (plan_text set parts) (map (λ part. part.schedule) parts)
 
--- own parts are right, and make a document of the search where it is within the limits
+-- own parts are right, each of their lines has room, and they make a document of the search where it is not too long
 abbrev pub OwnPartsMakeDocuments : Type 0
 OwnPartsMakeDocuments = (set : ModeSet) (parts : List ModePart) → KeepsRules set → AllZip (OwnPart set) set.modes parts →
     AllZip (IsRightPart set) set.modes parts
-    × (AllByRecursion HasRoom (plan_items set parts) → length (plan_text set parts) ≤ limit → OwnDoc set (plan_text set parts))
+    × AllByRecursion HasRoom (plan_items set parts)
+    × (length (plan_text set parts) ≤ limit → OwnDoc set (plan_text set parts))

@@ -40,8 +40,8 @@ pub fn right_parts_are_accepted()
     ensures { RightPartsAreAccepted }
 {}
 
-/// The parts that the search makes are right, so their document is one of the search and accepted,
-/// where it is within the limits on lines and bytes.
+/// The parts that the search makes are right, and each of their lines is within the limits; so
+/// their document is one of the search and accepted, where it has at most 4,294,967,296 bytes.
 pub fn own_parts_make_documents()
     ensures { OwnPartsMakeDocuments }
 {}
