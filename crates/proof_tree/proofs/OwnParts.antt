@@ -82,10 +82,12 @@ part_fits : (set : ModeSet) (mode : Mode) (part : ModePart) → HasNames mode �
 part_fits set mode part names ok limited own =
     let m = plain_mode set mode in
     let r = length part.refuted + 1 in
-    let right = answer_right m r part.schedule ok (omega arith) own.answer in
-    (mode_room mode.name names.own, all_append HasRoom (flat_map refuted_items (enumerate_from 1 part.refuted)) (answer_items mode part.schedule)
-    (trees_fit m 1 part.refuted ok limited (omega arith) (omega (arith, rounds_due m r part.schedule ok right)) own.trees)
-    (answer_fits set mode r part.schedule names ok limited right))
+    let right = answer_right m r part.schedule ok (omega arith) own.answer in (
+      mode_room mode.name names.own,
+      all_append HasRoom (flat_map refuted_items (enumerate_from 1 part.refuted)) (answer_items mode part.schedule)
+          (trees_fit m 1 part.refuted ok limited (omega arith) (omega (arith, rounds_due m r part.schedule ok right)) own.trees)
+          (answer_fits set mode r part.schedule names ok limited right),
+    )
 
 parts_fit : (set : ModeSet) (modes : List Mode) (parts : List ModePart) → AllByRecursion IsNamed (map (doc_mode set) modes) → AllByRecursion HasNames modes → AllByRecursion (λ mode. IsLimited (plain_mode set mode)) modes
     → AllZip (OwnPart set) modes parts → AllByRecursion HasRoom (flat_map part_items (zip modes parts))

@@ -160,8 +160,11 @@ schedule_fits set mode r s names ok limited le is =
     let ws = map message_item (zip ms s.messages) in
     let bs = map (table_item ms) (enumerate_from 1 s.tables) in
     let shape = is.shape in
-    let tables : Fit bs = tables_fit set mode names limited.slots.1 1 s.tables (omega (arith, shape.tables, le)) (recursion_from_All (TableFits m) s.tables is.s7.tables) (recursion_from_All (λ table. All (IsMessage m) table) s.tables shape.numbers) in
-    (schedule_room (length s.starts) (omega (arith, shape.starts, le)),
-    (start_room s.starts (omega (arith, shape.starts, shape.some)) (omega (arith, shape.starts, le)) (recursion_from_All IsTime s.starts t.starts),
-    all_append HasRoom ts (ws ++ bs) (tasks_fit (tasks_in mode.apps) s.tasks names.tasks (recursion_from_All IsTime s.tasks t.tasks))
-    (all_append HasRoom ws bs (messages_fit ms s.messages names.messages (recursion_from_All (λ w. IsTime w.0 × IsTime w.1) s.messages t.messages)) tables)))
+    let tables : Fit bs = tables_fit set mode names limited.slots.1 1 s.tables (omega (arith, shape.tables, le)) (recursion_from_All (TableFits m) s.tables is.s7.tables) (recursion_from_All (λ table. All (IsMessage m) table) s.tables shape.numbers) in (
+      schedule_room (length s.starts) (omega (arith, shape.starts, le)),
+      (
+        start_room s.starts (omega (arith, shape.starts, shape.some)) (omega (arith, shape.starts, le)) (recursion_from_All IsTime s.starts t.starts),
+        all_append HasRoom ts (ws ++ bs) (tasks_fit (tasks_in mode.apps) s.tasks names.tasks (recursion_from_All IsTime s.tasks t.tasks))
+            (all_append HasRoom ws bs (messages_fit ms s.messages names.messages (recursion_from_All (λ w. IsTime w.0 × IsTime w.1) s.messages t.messages)) tables),
+      ),
+    )
