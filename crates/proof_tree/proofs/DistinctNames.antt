@@ -94,7 +94,7 @@ new_apart ms new i j less l same =
 
 -- ---- the modes of the set have the names of the file
 
-abbrev name : Message → List ℕ
+abbrev pub name : Message → List ℕ
 name message = message.name
 
 names_from : (t n : ℕ) (us : List RawTask) (ms : List RawMessage) → map name (messages_from t us n ms) ≡ map raw_name ms
@@ -126,17 +126,17 @@ names_apart set (raw, e, same) =
 
 -- ---- numbers and names
 
-abbrev number : Message → ℕ
+abbrev pub number : Message → ℕ
 number message = message.number
 
-abbrev plain_number : PlainMessage → ℕ
+abbrev pub plain_number : PlainMessage → ℕ
 plain_number message = message.number
 
 plain_from : (ts : List TaskOfApp) (a : App) (ms : List Message) → map plain_number (map (λ msg. record { number = msg.number; period = unsigned_abs a.period; deadline = unsigned_abs a.deadline; from = map (place_of ts) msg.from; to = map (place_of ts) msg.to }) ms) ≡ map number ms
 plain_from ts a [] = refl
 plain_from ts a (m ∷ ms) = ap (λ (l : List ℕ). m.number ∷ l) (plain_from ts a ms)
 
-plain_numbers : (ts : List TaskOfApp) (apps : List App) → map plain_number (plain_messages ts apps) ≡ map number (messages_in apps)
+pub plain_numbers : (ts : List TaskOfApp) (apps : List App) → map plain_number (plain_messages ts apps) ≡ map number (messages_in apps)
 plain_numbers ts [] = refl
 plain_numbers ts (a ∷ apps) =
     let plain : Message → PlainMessage = λ msg. record { number = msg.number; period = unsigned_abs a.period; deadline = unsigned_abs a.deadline; from = map (place_of ts) msg.from; to = map (place_of ts) msg.to } in
@@ -146,14 +146,14 @@ plain_numbers ts (a ∷ apps) =
     ∙ sym (map-append number a.messages (messages_in apps))
 
 -- where the message of a number stands
-abbrev Found : List Message → ℕ → Type 0
+abbrev pub Found : List Message → ℕ → Type 0
 Found ms n = (i : ℕ) × (i < length ms) × (get_or (map number ms) i 0 ≡ n) × (name_of ms n ≡ get_or (map name ms) i [])
 
 later : (m : Message) (ms : List Message) (n : ℕ) → eqb m.number n ≡ false → Contains (map number (m ∷ ms)) n → Contains (map number ms) n
 later m ms n e (zero, l, f) = absurd (no_true (eqb m.number n) e (eq-eqb m.number n f))
 later m ms n e (suc k, l, f) = (k, omega (arith, l), f)
 
-found : (ms : List Message) (n : ℕ) → Contains (map number ms) n → Found ms n
+pub found : (ms : List Message) (n : ℕ) → Contains (map number ms) n → Found ms n
 found [] n (k, l, e) = absurd (omega (arith, l))
 found (m ∷ ms) n c = here (eqb m.number n) refl (λ d. found ms n d)
   where

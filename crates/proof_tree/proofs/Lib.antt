@@ -14,4 +14,7 @@ pub mod TextReading
 pub mod TreeStanding
 pub mod DistinctNames
 pub mod PartsStanding
+pub mod LineRoom
+pub mod GoodNames
+pub mod ScheduleRoom
 pub mod OwnParts

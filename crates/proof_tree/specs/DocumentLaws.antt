@@ -7,7 +7,9 @@ use Rattle.app_graph.specs.Validation.{KeepsRules}
 use Rattle.sched_model.specs.PlainMode.{PlainMode, most_rounds, plain_mode}
 use Rattle.sched_model.specs.RightSchedule.{IsSchedule}
 use Rattle.sched_model.specs.declared.schedule.Schedule.{Schedule}
-use Rattle.sched_model.specs.RefutationTree.{ValidTree}
+use Rattle.sched_model.specs.ValidMode.{IsValid}
+use Rattle.sched_model.specs.ModeLimits.{IsLimited}
+use Rattle.sched_model.specs.RefutationTree.{ValidTree, OwnTree}
 use Rattle.proof_tree.specs.declared.tree.Tree.{Tree}
 use Rattle.proof_tree.specs.declared.tree.ModePart.{ModePart}
 use Rattle.proof_tree.specs.PlanText.{tree_items, refuted_items, plan_items, plan_text}
@@ -57,6 +59,10 @@ abbrev pub ListsStand : Type 0
 ListsStand = (m : PlainMode) (r : ℕ) (trees : List Tree) (rest : Items) → ValidTreesFrom m r trees →
     TreesFrom m r (length trees) (map (λ item. Some item) (flat_map refuted_items (enumerate_from r trees)) ++ rest) rest
 
+-- each line of an own tree, and the line before them, has room
+abbrev pub OwnTreesHaveRoom : Type 0
+OwnTreesHaveRoom = (m : PlainMode) (r : ℕ) (tree : Tree) → IsValid m → IsLimited m → 1 ≤ r → r ≤ most_rounds m → OwnTree m r tree.nodes tree.refs → AllByRecursion HasRoom (refuted_items (r, tree))
+
 -- r rounds are due: a right schedule of r rounds, or none, where there is room for fewer than r
 abbrev pub RightAnswer : PlainMode → ℕ → Option Schedule → Type 0
 RightAnswer m r None = r ≡ most_rounds m + 1
@@ -72,8 +78,9 @@ abbrev pub RightPartsAreAccepted : Type 0
 RightPartsAreAccepted = (set : ModeSet) (parts : List ModePart) → KeepsRules set → AllZip (IsRightPart set) set.modes parts →
     AllByRecursion HasRoom (plan_items set parts) → length (plan_text set parts) ≤ limit → Accepts set (plan_text set parts) (map (λ part. part.schedule) parts)
 
--- own parts are right, and make a document of the search where it is within the limits
+-- own parts are right, each of their lines has room, and they make a document of the search where it is not too long
 abbrev pub OwnPartsMakeDocuments : Type 0
 OwnPartsMakeDocuments = (set : ModeSet) (parts : List ModePart) → KeepsRules set → AllZip (OwnPart set) set.modes parts →
     AllZip (IsRightPart set) set.modes parts
-    × (AllByRecursion HasRoom (plan_items set parts) → length (plan_text set parts) ≤ limit → OwnDoc set (plan_text set parts))
+    × AllByRecursion HasRoom (plan_items set parts)
+    × (length (plan_text set parts) ≤ limit → OwnDoc set (plan_text set parts))

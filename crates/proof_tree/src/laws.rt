@@ -1,6 +1,6 @@
 //! Laws of plan documents.
 
-ghost use Rattle.proof_tree.specs.DocumentLaws.{AcceptedAreBest, ListsStand, OneAnswers, OwnPartsMakeDocuments, RightPartsAreAccepted, TextsAreRead, TreesStand};
+ghost use Rattle.proof_tree.specs.DocumentLaws.{AcceptedAreBest, ListsStand, OneAnswers, OwnPartsMakeDocuments, OwnTreesHaveRoom, RightPartsAreAccepted, TextsAreRead, TreesStand};
 ghost use Rattle.proof_tree.specs.Spelled.{LinesAreExact};
 
 /// A line is read as a meaning exactly where it is the one spelling of that meaning.
@@ -40,8 +40,13 @@ pub fn right_parts_are_accepted()
     ensures { RightPartsAreAccepted }
 {}
 
-/// The parts that the search makes are right, so their document is one of the search and accepted,
-/// where it is within the limits on lines and bytes.
+/// The parts that the search makes are right, and each of their lines is within the limits; so
+/// their document is one of the search and accepted, where it has at most 4,294,967,296 bytes.
 pub fn own_parts_make_documents()
     ensures { OwnPartsMakeDocuments }
+{}
+
+/// Each line of a tree that the search makes is within the limits.
+pub fn own_trees_have_room()
+    ensures { OwnTreesHaveRoom }
 {}
