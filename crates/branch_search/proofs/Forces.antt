@@ -17,7 +17,7 @@ choices_length m r (d ∷ ds) [] l = refl
 choices_length m r (d ∷ ds) (v ∷ p) l =
     omega (arith, length-append (chosen m r d v) (chosen_all m r ds p), two m r d v, choices_length m r ds p (omega (arith, l)))
 
-choices_push : (m : PlainMode) (r : ℕ) (ds : List Decision) (p : List ℤ) (v : ℤ) (o : Decision) → length p < length ds → chosen_all m r ds (p ++ v ∷ []) ≡ chosen_all m r ds p ++ chosen m r (get_or ds (length p) o) v
+pub choices_push : (m : PlainMode) (r : ℕ) (ds : List Decision) (p : List ℤ) (v : ℤ) (o : Decision) → length p < length ds → chosen_all m r ds (p ++ v ∷ []) ≡ chosen_all m r ds p ++ chosen m r (get_or ds (length p) o) v
 choices_push m r [] p v o l = absurd (omega (arith, l))
 choices_push m r (d ∷ ds) [] v o l = ap (λ (z : List Diff). chosen m r d v ++ z) (none ds) ∙ append-nil (chosen m r d v)
   where

@@ -4,3 +4,4 @@ pub mod Walks
 pub mod Forces
 pub mod Comings
 pub mod Searches
+pub mod ProblemBounds

@@ -26,11 +26,11 @@ pub record Ready (m : PlainMode) (r : ℕ) (p g : List ℤ) (nodes : List TreeNo
   pub fronts : Fronts m r p list
   pub variables : v ≡ vars m r
   pub room : c ≡ length (base m r) + 2 * length (decisions m)
-  pub limit : c ≤ 15_680
+  pub limit : c ≤ 131_072
   pub count : length nodes ≡ n
 
 module _ (m : PlainMode) (r : ℕ) where
-  ready_root : (list : List Diff) (v c : ℕ) → list ≡ base m r → All (Fits (vars m r)) list → v ≡ vars m r → c ≡ length (base m r) + 2 * length (decisions m) → c ≤ 15_680 → Ready m r [] [] [] [] list v c 0
+  ready_root : (list : List Diff) (v c : ℕ) → list ≡ base m r → All (Fits (vars m r)) list → v ≡ vars m r → c ≡ length (base m r) + 2 * length (decisions m) → c ≤ 131_072 → Ready m r [] [] [] [] list v c 0
   ready_root list v c e f ev ec l = record {
     standing = root_stands m r;
     fronts = record { front = take_all (length (base m r) + 2 * (0 - 1)) list (omega (arith, ap (λ (x : List Diff). length x) e)) ∙ e ∙ sym (base_alone m r); fits = f };
@@ -40,7 +40,7 @@ module _ (m : PlainMode) (r : ℕ) where
     count = refl;
   }
 
-  pub ready_first : (p g : List ℤ) (nodes : List TreeNode) (refs : List ℕ) (list : List Diff) (v c : ℕ) → p ≡ [] → g ≡ [] → nodes ≡ [] → refs ≡ [] → list ≡ base m r → All (Fits (vars m r)) list → v ≡ vars m r → c ≡ length (base m r) + 2 * length (decisions m) → c ≤ 15_680 →
+  pub ready_first : (p g : List ℤ) (nodes : List TreeNode) (refs : List ℕ) (list : List Diff) (v c : ℕ) → p ≡ [] → g ≡ [] → nodes ≡ [] → refs ≡ [] → list ≡ base m r → All (Fits (vars m r)) list → v ≡ vars m r → c ≡ length (base m r) + 2 * length (decisions m) → c ≤ 131_072 →
       Ready m r p g nodes refs list v c 0
   ready_first p g nodes refs list v c ep eg en er e f ev ec l =
       subst (λ (x : List ℤ). Ready m r x g nodes refs list v c 0) (sym ep)

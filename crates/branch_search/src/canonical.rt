@@ -38,7 +38,7 @@ fn prepare<P: Posed>(alloc: Global, problem: &P) -> Result<Bench, AllocError>
     ensures fits { IfOk result (λ b. All (Fits (vars (P.mode problem.now) (P.rounds problem.now))) b.constraints.items) }
     ensures variables { IfOk result (λ b. b.work.variables ≡ vars (P.mode problem.now) (P.rounds problem.now)) }
     ensures room { IfOk result (λ b. b.work.constraints ≡ length (base (P.mode problem.now) (P.rounds problem.now)) + 2 * length (decisions (P.mode problem.now))) }
-    ensures limit { IfOk result (λ b. b.work.constraints ≤ 15_680) }
+    ensures limit { IfOk result (λ b. b.work.constraints ≤ 131_072) }
 {
     let base = problem.base();
     let room = base.len() + 2 * problem.decisions();

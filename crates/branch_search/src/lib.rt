@@ -3,6 +3,7 @@
 
 mod canonical;
 mod posed;
+mod problems;
 mod seeing;
 mod stack;
 mod walk;

@@ -24,13 +24,13 @@ pub trait Posed {
     /// The constraints that always hold.
     fn base(&self) -> &[Diff]
         ensures list { result.now ≡ base (mode self.now) (rounds self.now) }
-        ensures few { length result.now ≤ 7_488 }
+        ensures few { length result.now ≤ 65_536 }
         ensures fits { All (Fits (vars (mode self.now) (rounds self.now))) result.now };
 
     /// How many decisions there are.
     fn decisions(&self) -> usize
         ensures count { result ≡ length (decisions (mode self.now)) }
-        ensures few { result ≤ 4_096 };
+        ensures few { result ≤ 32_768 };
 
     /// The least and the greatest alternative of the decision after these choices; there is none where the least is above the greatest.
     fn alternatives(&self, prefix: &[i64]) -> (i64, i64)

@@ -54,7 +54,7 @@ fn solve_in_force<P: Posed>(
     requires fits { All (Fits (vars (P.mode problem.now) (P.rounds problem.now))) bench.old.constraints.items }
     requires variables { bench.old.work.variables ≡ vars (P.mode problem.now) (P.rounds problem.now) }
     requires room { bench.old.work.constraints ≡ length (base (P.mode problem.now) (P.rounds problem.now)) + 2 * length (decisions (P.mode problem.now)) }
-    requires limit { bench.old.work.constraints ≤ 15_680 }
+    requires limit { bench.old.work.constraints ≤ 131_072 }
     requires slots { instances (P.mode problem.now) ≤ P.rounds problem.now * (P.mode problem.now).slots }
     requires roomy { Roomy (P.mode problem.now) (P.rounds problem.now) (P.rounds problem.now) prefix.now }
     ensures seen { IfOk result (λ seen. Sees (P.mode problem.now) (P.rounds problem.now) prefix.now bench.new.work.values refs.old.items refs.new.items seen) }
@@ -93,7 +93,7 @@ pub(crate) fn look<P: Posed>(
     requires fronts { Fronts (P.mode problem.now) (P.rounds problem.now) prefix.now bench.old.constraints.items }
     requires variables { bench.old.work.variables ≡ vars (P.mode problem.now) (P.rounds problem.now) }
     requires room { bench.old.work.constraints ≡ length (base (P.mode problem.now) (P.rounds problem.now)) + 2 * length (decisions (P.mode problem.now)) }
-    requires limit { bench.old.work.constraints ≤ 15_680 }
+    requires limit { bench.old.work.constraints ≤ 131_072 }
     ensures seen { IfOk result (λ seen. Sees (P.mode problem.now) (P.rounds problem.now) prefix.now bench.new.work.values refs.old.items refs.new.items seen) }
     ensures list { IfOk result (λ _. bench.new.constraints.items ≡ in_force (P.mode problem.now) (P.rounds problem.now) prefix.now) }
     ensures fits { IfOk result (λ _. All (Fits (vars (P.mode problem.now) (P.rounds problem.now))) bench.new.constraints.items) }

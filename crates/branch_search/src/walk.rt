@@ -77,7 +77,7 @@ pub(crate) fn visit<P: Posed>(
     requires fronts { Fronts (P.mode problem.now) (P.rounds problem.now) walk.old.prefix.items bench.old.constraints.items }
     requires variables { bench.old.work.variables ≡ vars (P.mode problem.now) (P.rounds problem.now) }
     requires room { bench.old.work.constraints ≡ length (base (P.mode problem.now) (P.rounds problem.now)) + 2 * length (decisions (P.mode problem.now)) }
-    requires limit { bench.old.work.constraints ≤ 15_680 }
+    requires limit { bench.old.work.constraints ≤ 131_072 }
     ensures comes { IfOk result (λ next. Comes (P.mode problem.now) (P.rounds problem.now) walk.old.prefix.items (length walk.old.nodes.items) walk.new.prefix.items walk.new.highs.items walk.new.nodes.items walk.new.refs.items next) }
     ensures benched { IfOk result (λ next. Benched (P.mode problem.now) (P.rounds problem.now) walk.new.prefix.items bench.new.constraints.items bench.new.work.values next) }
     ensures variables { bench.new.work.variables ≡ bench.old.work.variables }

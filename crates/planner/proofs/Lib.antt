@@ -1,4 +1,5 @@
 pub mod StartLemmas
 pub mod ClosedForm
 pub mod SettledLemmas
-pub mod Planned
+pub mod SettledPlans
+pub mod Trying

@@ -3,7 +3,7 @@ use Rattle.app_graph.specs.declared.mode_set.App.{App}
 use Rattle.std.proofs.Common.{List}
 use Rattle.sched_model.specs.Numbers.{distinct}
 use Rattle.planner.specs.Settled.{has_no_message, nodes_in}
-use Rattle.planner.proofs.Planned.{settled_yes, has_message, has_pair}
+use Rattle.planner.proofs.SettledPlans.{settled_yes, has_message, has_pair}
 use Rattle.planner.proofs.plan.is_settled.Goals as goal
 
 pub returns-then-not-has_no_message-clause-settled : goal.returns-then-not-has_no_message-clause-settled

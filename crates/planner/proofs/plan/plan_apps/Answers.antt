@@ -1,6 +1,6 @@
 use Rattle.std.proofs.Common.{◌≡◌, ◌∙◌, ap, length, unsigned_abs, rules}
 use Rattle.planner.specs.Settled.{nodes_in}
-use Rattle.planner.proofs.Planned.{part_found}
+use Rattle.planner.proofs.SettledPlans.{part_found}
 use Rattle.planner.proofs.plan.plan_apps.Goals as goal
 
 pub returns : goal.returns

@@ -1,0 +1,5 @@
+mod FlatLists
+mod Sources
+mod BaseLists
+mod Bounded
+mod Loadings

@@ -1,0 +1,26 @@
+use Rattle.std.proofs.Common.{sym, ◌∙◌, ap, subst, rules, pos, ℤ, List, Contains, w64, FitsSigned}
+use Rattle.std.proofs.lemmas.Int.{to_z-of_z}
+use Rattle.tick_num.specs.declared.differences.Diff.{Diff}
+use Rattle.node_use.specs.declared.places.TaskTimes.{TaskTimes}
+use Rattle.node_use.specs.Between.{IsTimed, plain, between}
+use Rattle.sched_model.specs.Numbers.{gcd}
+use Rattle.sched_model.specs.ConstraintProblem.{places, task_var}
+use Rattle.constraint_set.specs.Numbers.{times_at}
+use Rattle.constraint_set.proofs.Bounded.{timed}
+use Rattle.constraint_set.proofs.choices.pair_diffs.Goals as goal
+
+pub divisor_of-divisor-requires-clause-first : goal.divisor_of-divisor-requires-clause-first
+divisor_of-divisor-requires-clause-first c =
+    subst (λ (t : TaskTimes). IsTimed t) (sym c.times_of-one.ensures) (timed c.args.mode.now c.args.first c.requires.valid c.requires.limits c.requires.first)
+
+pub divisor_of-divisor-requires-clause-second : goal.divisor_of-divisor-requires-clause-second
+divisor_of-divisor-requires-clause-second c =
+    subst (λ (t : TaskTimes). IsTimed t) (sym c.times_of-two.ensures) (timed c.args.mode.now c.args.second c.requires.valid c.requires.limits c.requires.second)
+
+pub order_diffs-requires-clause-first : goal.order_diffs-requires-clause-first
+order_diffs-requires-clause-first c =
+    subst (λ (t : TaskTimes). IsTimed t) (sym c.times_of-one.ensures) (timed c.args.mode.now c.args.first c.requires.valid c.requires.limits c.requires.first)
+
+pub order_diffs-requires-clause-second : goal.order_diffs-requires-clause-second
+order_diffs-requires-clause-second c =
+    subst (λ (t : TaskTimes). IsTimed t) (sym c.times_of-two.ensures) (timed c.args.mode.now c.args.second c.requires.valid c.requires.limits c.requires.second)

@@ -1,0 +1,5 @@
+pub mod Posed
+pub mod Flat
+pub mod Graph
+pub mod Decided
+pub mod Numbers

@@ -1,0 +1,206 @@
+//! The alternatives of a decision, and the constraints that a choice adds.
+
+ghost use Rattle.std.specs.Prelude.{◌≡◌, [], ◌+◌, ◌-◌, ◌<◌, ◌≤◌, Contains, length, slice_index_or, pos, ◌+ℤ◌, ◌-ℤ◌, ◌≤ℤ◌};
+ghost use Rattle.sched_model.specs.Numbers.{span};
+ghost use Rattle.sched_model.specs.PlainMode.{hyper, instance_count, message_at, task_at};
+ghost use Rattle.sched_model.specs.ConstraintProblem.{alternatives_of, chosen, decisions, order, places, serve};
+ghost use Rattle.sched_model.specs.OpenPrefix.{Chosen};
+ghost use Rattle.sched_model.specs.ModeLimits.{IsLimited};
+ghost use Rattle.sched_model.specs.ValidMode.{IsValid};
+ghost use Rattle.round_service.specs.Serving.{most_choice};
+ghost use Rattle.constraint_set.specs.Numbers.{numbers_at, times_at};
+ghost use Rattle.constraint_set.specs.Decided.{decision_of};
+
+use crate::base::{closes_var, opens_var};
+use crate::decisions::Choice;
+use crate::flat::FlatMode;
+use node_use::{TaskTimes, divisor_of, order_diffs, places_of};
+use round_service::{MessageTimes, first_choices, later_choices, serve_diffs};
+use tick_num::Diff;
+
+/// The numbers of the task at the place.
+fn times_of(mode: &FlatMode, place: u32) -> TaskTimes
+    requires { place < length mode.now.tasks }
+    ensures { result ≡ times_at mode.now place }
+{
+    let task = mode.task(place);
+    TaskTimes {
+        period: task.period(),
+        deadline: task.deadline(),
+        wcet: task.wcet(),
+    }
+}
+
+/// The numbers of the message at the place, for so many rounds in a hyperperiod of so many ticks.
+fn numbers_of(mode: &FlatMode, rounds: u32, ticks: u64, place: u32) -> MessageTimes
+    requires place { place < length mode.now.messages }
+    requires ticks { ticks ≡ hyper mode.now }
+    ensures { result ≡ numbers_at mode.now rounds place }
+{
+    let message = mode.message(place);
+    MessageTimes {
+        rounds: rounds as u64,
+        round: mode.round(),
+        hyper: ticks,
+        period: message.period(),
+        deadline: message.deadline(),
+    }
+}
+
+/// The alternatives of a pair of tasks.
+fn pair_alternatives(mode: &FlatMode, first: u32, second: u32) -> (i64, i64)
+    requires limits { IsLimited mode.now }
+    requires valid { IsValid mode.now }
+    requires first { first < length mode.now.tasks }
+    requires second { second < length mode.now.tasks }
+    ensures { span result.0 result.1 ≡ places (task_at mode.now first) (task_at mode.now second) }
+{
+    let one = times_of(mode, first);
+    let two = times_of(mode, second);
+    places_of(one, two)
+}
+
+/// The alternatives of a message's first instance.
+fn first_alternatives(mode: &FlatMode, rounds: u32, ticks: u64, message: u32) -> (i64, i64)
+    requires limits { IsLimited mode.now }
+    requires valid { IsValid mode.now }
+    requires rounds { (1 ≤ rounds) × (rounds ≤ 256) }
+    requires ticks { ticks ≡ hyper mode.now }
+    requires message { message < length mode.now.messages }
+    ensures { span result.0 result.1 ≡ alternatives_of mode.now rounds (serve message 0) [] }
+{
+    let numbers = numbers_of(mode, rounds, ticks, message);
+    first_choices(numbers)
+}
+
+/// The alternatives of a later instance, after these choices.
+fn later_alternatives(rounds: u32, prefix: &[i64], instance: usize) -> (i64, i64)
+    requires rounds { rounds ≤ 256 }
+    requires instance { (1 ≤ instance) × (instance ≤ length prefix.now) }
+    requires previous { (pos 1 ≤ℤ slice_index_or prefix.now (length prefix.now - 1) (pos 0)) × (slice_index_or prefix.now (length prefix.now - 1) (pos 0) ≤ℤ pos 1000000000000000) }
+    requires first { (pos 1 ≤ℤ slice_index_or prefix.now (length prefix.now - instance) (pos 0)) × (slice_index_or prefix.now (length prefix.now - instance) (pos 0) ≤ℤ pos 1000000000000000) }
+    ensures low { result.0 ≡ slice_index_or prefix.now (length prefix.now - 1) (pos 0) +ℤ pos 1 }
+    ensures high { result.1 ≡ slice_index_or prefix.now (length prefix.now - instance) (pos 0) +ℤ pos rounds -ℤ pos 1 }
+{
+    let previous = prefix[prefix.len() - 1];
+    let first = prefix[prefix.len() - instance];
+    later_choices(rounds as u64, previous, first)
+}
+
+/// The alternatives of an instance of a message, after the choices for the decisions before it.
+fn serve_alternatives(
+    mode: &FlatMode,
+    rounds: u32,
+    ticks: u64,
+    message: u32,
+    instance: u64,
+    prefix: &[i64],
+) -> (i64, i64)
+    requires limits { IsLimited mode.now }
+    requires valid { IsValid mode.now }
+    requires rounds { (1 ≤ rounds) × (rounds ≤ 256) }
+    requires ticks { ticks ≡ hyper mode.now }
+    requires more { length prefix.now < length (decisions mode.now) }
+    requires chosen { Chosen mode.now rounds prefix.now }
+    requires decision { serve message instance ≡ slice_index_or (decisions mode.now) (length prefix.now) (order 0 0) }
+    ensures { span result.0 result.1 ≡ alternatives_of mode.now rounds (serve message instance) prefix.now }
+{
+    if instance == 0 {
+        return first_alternatives(mode, rounds, ticks, message);
+    }
+    later_alternatives(rounds, prefix, instance as usize)
+}
+
+/// The alternatives of a decision, after the choices for the decisions before it.
+pub(crate) fn alternatives_at(
+    mode: &FlatMode,
+    rounds: u32,
+    ticks: u64,
+    choice: Choice,
+    prefix: &[i64],
+) -> (i64, i64)
+    requires limits { IsLimited mode.now }
+    requires valid { IsValid mode.now }
+    requires rounds { (1 ≤ rounds) × (rounds ≤ 256) }
+    requires ticks { ticks ≡ hyper mode.now }
+    requires more { length prefix.now < length (decisions mode.now) }
+    requires chosen { Chosen mode.now rounds prefix.now }
+    requires decision { decision_of choice ≡ slice_index_or (decisions mode.now) (length prefix.now) (order 0 0) }
+    ensures { span result.0 result.1 ≡ alternatives_of mode.now rounds (decision_of choice) prefix.now }
+{
+    match choice {
+        Choice::Serve(message, instance) => serve_alternatives(
+            mode, rounds, ticks, message, instance, prefix,
+        ),
+        Choice::Order(first, second) => pair_alternatives(mode, first, second),
+    }
+}
+
+/// The two constraints of the choice `z` for a pair of tasks.
+fn pair_diffs(mode: &FlatMode, rounds: u32, first: u32, second: u32, z: i64) -> [Diff; 2]
+    requires limits { IsLimited mode.now }
+    requires valid { IsValid mode.now }
+    requires rounds { rounds ≤ 256 }
+    requires first { first < length mode.now.tasks }
+    requires second { second < length mode.now.tasks }
+    requires place { Contains (places (task_at mode.now first) (task_at mode.now second)) z }
+    ensures { result ≡ chosen mode.now rounds (order first second) z }
+{
+    let one = times_of(mode, first);
+    let two = times_of(mode, second);
+    let divisor = divisor_of(one, two);
+    order_diffs(rounds + first, rounds + second, one, two, divisor, z)
+}
+
+/// The two constraints of the choice `g` for an instance of a message.
+fn instance_diffs(
+    mode: &FlatMode,
+    rounds: u32,
+    ticks: u64,
+    message: u32,
+    instance: u64,
+    g: i64,
+) -> [Diff; 2]
+    requires limits { IsLimited mode.now }
+    requires valid { IsValid mode.now }
+    requires rounds { (1 ≤ rounds) × (rounds ≤ 256) }
+    requires ticks { ticks ≡ hyper mode.now }
+    requires message { message < length mode.now.messages }
+    requires instance { instance < instance_count mode.now (message_at mode.now message) }
+    requires least { pos 1 ≤ℤ g }
+    requires most { g ≤ℤ pos (most_choice (numbers_at mode.now rounds message)) }
+    ensures { result ≡ chosen mode.now rounds (serve message instance) g }
+{
+    let opens = opens_var(mode, rounds, message);
+    let closes = closes_var(mode, rounds, message);
+    let numbers = numbers_of(mode, rounds, ticks, message);
+    serve_diffs(opens, closes, numbers, instance, g)
+}
+
+/// The two constraints of a choice for the decision that stands at the place `at`, after the choices for those before it.
+pub(crate) fn diffs_at(
+    mode: &FlatMode,
+    rounds: u32,
+    ticks: u64,
+    choice: Choice,
+    prefix: &[i64],
+    at: usize,
+) -> [Diff; 2]
+    requires limits { IsLimited mode.now }
+    requires valid { IsValid mode.now }
+    requires rounds { (1 ≤ rounds) × (rounds ≤ 256) }
+    requires ticks { ticks ≡ hyper mode.now }
+    requires few { length prefix.now ≤ length (decisions mode.now) }
+    requires chosen { Chosen mode.now rounds prefix.now }
+    requires at { at < length prefix.now }
+    requires decision { decision_of choice ≡ slice_index_or (decisions mode.now) at (order 0 0) }
+    ensures { result ≡ chosen mode.now rounds (decision_of choice) (slice_index_or prefix.now at (pos 0)) }
+{
+    let value = prefix[at];
+    match choice {
+        Choice::Serve(message, instance) => instance_diffs(
+            mode, rounds, ticks, message, instance, value,
+        ),
+        Choice::Order(first, second) => pair_diffs(mode, rounds, first, second, value),
+    }
+}

@@ -1,0 +1,176 @@
+//! The decisions of a mode: its message instances, then its pairs of tasks on one node, in file order.
+
+ghost use Rattle.std.specs.Prelude.{◌≡◌, [], ◌∷◌, ◌++◌, ◌+◌, ◌<◌, ◌≤◌, IfOk, length, map, slice_index_or};
+ghost use Rattle.std.specs.List.{flat_map};
+ghost use Rattle.sched_model.specs.Numbers.{below};
+ghost use Rattle.sched_model.specs.PlainMode.{hyper, message_at};
+ghost use Rattle.sched_model.specs.ConstraintProblem.{decisions, order, ordered, orders, serve, serves};
+ghost use Rattle.sched_model.specs.ModeLimits.{IsLimited};
+ghost use Rattle.sched_model.specs.ValidMode.{IsValid};
+ghost use Rattle.constraint_set.specs.Decided.{decision_of};
+
+use crate::flat::FlatMode;
+use std::alloc::{AllocError, Global};
+use std::marker::Model;
+
+/// What is to be decided. Messages and tasks go by their places in the mode.
+#[derive(Clone, Copy, Drop)]
+pub(crate) enum Choice {
+    /// The round instance that carries an instance of a message.
+    Serve(u32, u64),
+    /// The place of the second task's runs between those of the first.
+    Order(u32, u32),
+}
+
+/// A list of decisions.
+#[derive(Drop)]
+pub(crate) struct Decisions {
+    choices: Vec<Choice>,
+}
+
+impl Model for Decisions {
+    ghost use Rattle.std.specs.Prelude.{List, map};
+    ghost use Rattle.sched_model.specs.ConstraintProblem.{Decision};
+
+    ghost Value = { List Decision };
+
+    ghost use Rattle.constraint_set.specs.Decided.{decision_of};
+
+    ghost view = { λ d. map decision_of d.choices.items };
+}
+
+impl Decisions {
+    fn new(alloc: Global) -> Self
+        ensures { result ≡ [] }
+    {
+        Decisions {
+            choices: Vec::new(alloc),
+        }
+    }
+
+    /// Adds one.
+    fn push(&mut self, choice: Choice) -> Result<(), AllocError>
+        ensures { IfOk result (λ _. self.new ≡ self.old ++ decision_of choice ∷ []) }
+    {
+        self.choices.push(choice)?;
+        Ok(())
+    }
+
+    /// How many there are.
+    pub(crate) fn len(&self) -> usize
+        ensures { result ≡ length self.now }
+    {
+        self.choices.len()
+    }
+
+    /// The decision at the place.
+    pub(crate) fn at(&self, place: usize) -> Choice
+        requires { place < length self.now }
+        ensures { decision_of result ≡ slice_index_or self.now place (order 0 0) }
+    {
+        self.choices[place]
+    }
+}
+
+/// Adds the instances of a message.
+fn add_serves(list: &mut Decisions, message: u32, instances: u64) -> Result<(), AllocError>
+    ensures { IfOk result (λ _. list.new ≡ list.old ++ map (serve message) (below instances)) }
+{
+    for instance in 0..instances {
+        list.push(Choice::Serve(message, instance))?;
+    }
+    Ok(())
+}
+
+/// Adds the instances of the message at the place, in a hyperperiod of so many ticks.
+#[tactic(auto, using(crate::proofs::BaseLists::message_some))]
+fn add_message(
+    list: &mut Decisions,
+    mode: &FlatMode,
+    ticks: u64,
+    message: u32,
+) -> Result<(), AllocError>
+    requires limits { IsLimited mode.now }
+    requires valid { IsValid mode.now }
+    requires message { message < length mode.now.messages }
+    requires ticks { ticks ≡ hyper mode.now }
+    ensures { IfOk result (λ _. list.new ≡ list.old ++ serves mode.now message) }
+{
+    let period = mode.message(message).period();
+    add_serves(list, message, ticks / period)?;
+    Ok(())
+}
+
+/// Adds the instances of the messages.
+fn add_messages(list: &mut Decisions, mode: &FlatMode, ticks: u64) -> Result<(), AllocError>
+    requires limits { IsLimited mode.now }
+    requires valid { IsValid mode.now }
+    requires ticks { ticks ≡ hyper mode.now }
+    ensures { IfOk result (λ _. list.new ≡ list.old ++ flat_map (serves mode.now) (below (length mode.now.messages))) }
+{
+    for message in 0..mode.message_count() {
+        add_message(list, mode, ticks, message)?;
+    }
+    Ok(())
+}
+
+/// Adds the pair of the tasks, where the first stands before the second on one node.
+fn add_pair(
+    list: &mut Decisions,
+    mode: &FlatMode,
+    first: u32,
+    second: u32,
+) -> Result<(), AllocError>
+    requires first { first < length mode.now.tasks }
+    requires second { second < length mode.now.tasks }
+    ensures { IfOk result (λ _. list.new ≡ list.old ++ ordered mode.now first second) }
+{
+    if first >= second {
+        return Ok(());
+    }
+    if mode.task(first).node() != mode.task(second).node() {
+        return Ok(());
+    }
+    list.push(Choice::Order(first, second))?;
+    Ok(())
+}
+
+/// Adds the pairs of a task with the later ones on its node.
+fn add_pairs_of(list: &mut Decisions, mode: &FlatMode, first: u32) -> Result<(), AllocError>
+    requires limits { IsLimited mode.now }
+    requires first { first < length mode.now.tasks }
+    ensures { IfOk result (λ _. list.new ≡ list.old ++ orders mode.now first) }
+{
+    for second in 0..mode.task_count() {
+        add_pair(list, mode, first, second)?;
+    }
+    Ok(())
+}
+
+/// Adds the pairs of tasks.
+fn add_pairs(list: &mut Decisions, mode: &FlatMode) -> Result<(), AllocError>
+    requires limits { IsLimited mode.now }
+    ensures { IfOk result (λ _. list.new ≡ list.old ++ flat_map (orders mode.now) (below (length mode.now.tasks))) }
+{
+    for first in 0..mode.task_count() {
+        add_pairs_of(list, mode, first)?;
+    }
+    Ok(())
+}
+
+/// The decisions of the mode, whose hyperperiod has so many ticks.
+pub(crate) fn make_decisions(
+    alloc: Global,
+    mode: &FlatMode,
+    ticks: u64,
+) -> Result<Decisions, AllocError>
+    requires limits { IsLimited mode.now }
+    requires valid { IsValid mode.now }
+    requires ticks { ticks ≡ hyper mode.now }
+    ensures { IfOk result (λ d. d ≡ decisions mode.now) }
+{
+    let mut list = Decisions::new(alloc);
+    add_messages(&mut list, mode, ticks)?;
+    add_pairs(&mut list, mode)?;
+    Ok(list)
+}

@@ -1,0 +1,13 @@
+//! The constraint problem of a mode and a number of rounds: its constraints, its decisions and what each choice adds.
+#![tactic(auto)]
+
+mod base;
+mod bounds;
+mod choices;
+mod decisions;
+mod flat;
+mod graph;
+mod loads;
+mod problem;
+
+pub use problem::Problem;

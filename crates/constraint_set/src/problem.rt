@@ -1,0 +1,148 @@
+//! The constraint problem of a mode and a number of rounds.
+
+ghost use Rattle.std.specs.Prelude.{◌≡◌, ◌-◌, ◌*◌, ◌<◌, ◌≤◌, ◌↔◌, IfNone, IfOk, IfSome, IsTrue, length, pos, slice_index_or};
+ghost use Rattle.app_graph.specs.Validation.{KeepsRules};
+ghost use Rattle.sched_model.specs.PlainMode.{hyper, instances, most_rounds, plain_at};
+ghost use Rattle.sched_model.specs.ConstraintProblem.{alternatives, base, chosen, decisions, order, vars};
+ghost use Rattle.sched_model.specs.Numbers.{span};
+ghost use Rattle.sched_model.specs.OpenPrefix.{Chosen};
+ghost use Rattle.sched_model.specs.ProblemLimits.{ProblemFits};
+ghost use Rattle.sched_model.specs.ValidMode.{IsValid};
+ghost use Rattle.constraint_set.specs.Decided.{AllRoom, FirstOver};
+
+use crate::base::make_base;
+use crate::choices::{alternatives_at, diffs_at};
+use crate::decisions::{Decisions, make_decisions};
+use crate::flat::{FlatMode, flatten};
+use crate::loads::first_overfull;
+use app_graph::ModeSet;
+use sched_model::{hyper, instances};
+use std::alloc::{AllocError, Global};
+use std::marker::Model;
+use tick_num::Diff;
+
+/// The constraint problem of a mode, for a number of rounds in a hyperperiod.
+#[derive(Drop)]
+pub struct Problem {
+    mode: FlatMode,
+    rounds: u32,
+    ticks: u64,
+    instances: u64,
+    base: Vec<Diff>,
+    decisions: Decisions,
+}
+
+impl Model for Problem {
+    ghost use Rattle.constraint_set.specs.Posed.{Posed, Ready};
+
+    ghost Value = { Posed };
+
+    ghost view = { λ p. record { mode = p.mode; rounds = p.rounds } };
+
+    ghost invariant = { λ p. Ready (record { mode = p.mode; rounds = p.rounds }) p.ticks p.instances p.base.items p.decisions };
+}
+
+/// The hyperperiod of the mode, in ticks.
+fn ticks_of(set: &ModeSet, mode: u32) -> u64
+    requires rules { KeepsRules set.now }
+    requires mode { mode < length set.now.modes }
+    ensures { result ≡ hyper (plain_at set.now mode) }
+{
+    hyper(set, mode).unsigned_abs()
+}
+
+impl Problem {
+    /// The problem of the mode of this number, for so many rounds, from 1 to the most that a hyperperiod has room for.
+    pub fn make(alloc: Global, set: &ModeSet, mode: u32, rounds: u64) -> Result<Problem, AllocError>
+        requires rules { KeepsRules set.now }
+        requires mode { mode < length set.now.modes }
+        requires some { 1 ≤ rounds }
+        requires most { rounds ≤ most_rounds (plain_at set.now mode) }
+        ensures { IfOk result (λ p. p ≡ record { mode = plain_at set.now mode; rounds = rounds }) }
+    {
+        let flat = flatten(alloc, set, mode)?;
+        let ticks = ticks_of(set, mode);
+        let count = instances(set, mode);
+        let rounds = rounds as u32;
+        let base = make_base(alloc, &flat, rounds, ticks)?;
+        let decisions = make_decisions(alloc, &flat, ticks)?;
+        Ok(Problem {
+            mode: flat,
+            rounds,
+            ticks,
+            instances: count,
+            base,
+            decisions,
+        })
+    }
+
+    /// How many variables it has: one for each round's start and each task's, and two for each message.
+    pub fn vars(&self) -> u32
+        ensures count { result ≡ vars self.now.mode self.now.rounds }
+        ensures few { result ≤ 512 }
+        ensures fits { ProblemFits self.now.mode self.now.rounds }
+        ensures valid { IsValid self.now.mode }
+    {
+        self.rounds + self.mode.task_count() + 2 * self.mode.message_count()
+    }
+
+    /// The constraints that hold whatever is chosen, in their order.
+    pub fn base(&self) -> &[Diff]
+        ensures { result.now ≡ base self.now.mode self.now.rounds }
+    {
+        self.base.as_slice()
+    }
+
+    /// How many decisions there are.
+    pub fn decisions(&self) -> usize
+        ensures { result ≡ length (decisions self.now.mode) }
+    {
+        self.decisions.len()
+    }
+
+    /// The number of slots in a round.
+    pub fn slots(&self) -> u32
+        ensures { result ≡ self.now.mode.slots }
+    {
+        self.mode.slots()
+    }
+
+    /// Whether the rounds have too few slots for the instances of all messages.
+    pub fn short_of_slots(&self) -> bool
+        ensures { IsTrue result ↔ (self.now.rounds * self.now.mode.slots < instances self.now.mode) }
+    {
+        (self.rounds as u64 * self.mode.slots() as u64) < self.instances
+    }
+
+    /// The least and the greatest alternative of the next decision after these choices;
+    /// there is none where the least is above the greatest.
+    pub fn alternatives(&self, prefix: &[i64]) -> (i64, i64)
+        requires more { length prefix.now < length (decisions self.now.mode) }
+        requires chosen { Chosen self.now.mode self.now.rounds prefix.now }
+        ensures { span result.0 result.1 ≡ alternatives self.now.mode self.now.rounds prefix.now }
+    {
+        let choice = self.decisions.at(prefix.len());
+        alternatives_at(&self.mode, self.rounds, self.ticks, choice, prefix)
+    }
+
+    /// The two constraints that the last of these choices adds.
+    pub fn diffs_of_last(&self, prefix: &[i64]) -> [Diff; 2]
+        requires some { 0 < length prefix.now }
+        requires few { length prefix.now ≤ length (decisions self.now.mode) }
+        requires chosen { Chosen self.now.mode self.now.rounds prefix.now }
+        ensures { result ≡ chosen self.now.mode self.now.rounds (slice_index_or (decisions self.now.mode) (length prefix.now - 1) (order 0 0)) (slice_index_or prefix.now (length prefix.now - 1) (pos 0)) }
+    {
+        let last = prefix.len() - 1;
+        let choice = self.decisions.at(last);
+        diffs_at(&self.mode, self.rounds, self.ticks, choice, prefix, last)
+    }
+
+    /// The first round, from 1, that these choices name more often than it has slots; None exactly where there is none.
+    pub fn overfull(&self, prefix: &[i64]) -> Option<u64>
+        requires { length prefix.now ≤ length (decisions self.now.mode) }
+        ensures none { IfNone result (AllRoom self.now.mode.slots self.now.rounds self.now.rounds (decisions self.now.mode) prefix.now) }
+        ensures some { IfSome result (FirstOver self.now.mode.slots self.now.rounds (decisions self.now.mode) prefix.now) }
+    {
+        first_overfull(&self.decisions, prefix, self.rounds, self.mode.slots())
+    }
+}
