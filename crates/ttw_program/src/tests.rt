@@ -86,3 +86,40 @@ fn failing_sink_and_files(rt: HostRuntime) -> Result<(), Fail> {
     assert_eq!(rt; text.as_slice(), b"ttw 1\nmode run\ns".as_slice());
     Ok(())
 }
+
+#[test]
+fn no_round_fits(rt: HostRuntime) -> Result<(), Fail> {
+    let text = BLINK.replace(rt.alloc(), "round = 10", "round = 20")?;
+    let text = text
+        .as_str()
+        .replace(rt.alloc(), "period = 100", "period = 10")?;
+    let text = text
+        .as_str()
+        .replace(rt.alloc(), "deadline = 100", "deadline = 10")?;
+    let (status, text) = answer(
+        rt.alloc(),
+        &["plan", "blink.toml", "10"],
+        text.as_str(),
+        &[],
+        &[],
+    )?;
+    assert!(rt; status == Status::NoSchedule);
+    assert_eq!(rt; text.as_slice(), b"ttw 1\nmode run\nnone\nend\n".as_slice());
+    Ok(())
+}
+
+#[test]
+fn shared_node_not_built(rt: HostRuntime) -> Result<(), Fail> {
+    let mut text = BLINK.to_string(rt.alloc())?;
+    text.push_str("[[mode.app.task]]\nname = \"other\"\nnode = \"n1\"\nwcet = 1\n")?;
+    let (status, text) = answer(
+        rt.alloc(),
+        &["plan", "blink.toml", "10"],
+        text.as_str(),
+        &[],
+        &[],
+    )?;
+    assert!(rt; status == Status::ModeFile);
+    assert_eq!(rt; text.as_slice(), b"modes: not built\n".as_slice());
+    Ok(())
+}
