@@ -123,3 +123,16 @@ fn shared_node_not_built(rt: HostRuntime) -> Result<(), Fail> {
     assert_eq!(rt; text.as_slice(), b"modes: not built\n".as_slice());
     Ok(())
 }
+
+/// A sensor, a controller and an actuator on three nodes, with a message between each two.
+const LOOP: &str =
+    "slots = 2\nround = 20\ngap = 100\nhost = \"n0\"\nnodes = [\"n0\", \"n1\", \"n2\"]\n[[mode]]\nname = \"run\"\n[[mode.app]]\nname = \"loop\"\nperiod = 100\ndeadline = 100\n[[mode.app.task]]\nname = \"sense\"\nnode = \"n1\"\nwcet = 2\n[[mode.app.task]]\nname = \"ctrl\"\nnode = \"n0\"\nwcet = 5\n[[mode.app.task]]\nname = \"act\"\nnode = \"n2\"\nwcet = 1\n[[mode.app.message]]\nname = \"m1\"\nfrom = [\"sense\"]\nto = [\"ctrl\"]\n[[mode.app.message]]\nname = \"m2\"\nfrom = [\"ctrl\"]\nto = [\"act\"]\n";
+
+#[test]
+fn loop_not_built(rt: HostRuntime) -> Result<(), Fail> {
+    let words = ["plan", "blink.toml", "13"];
+    let (status, text) = answer(rt.alloc(), &words, LOOP, &[], &[])?;
+    assert!(rt; status == Status::ModeFile);
+    assert_eq!(rt; text.as_slice(), b"modes: not built\n".as_slice());
+    Ok(())
+}
