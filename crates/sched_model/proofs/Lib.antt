@@ -44,3 +44,5 @@ pub mod Fronts
 pub mod Refutations
 pub mod Costs
 pub mod FirstLists
+pub mod RowPlaces
+pub mod TaskSets

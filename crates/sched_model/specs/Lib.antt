@@ -2,6 +2,8 @@ pub mod Numbers
 pub mod PlainMode
 pub mod TaskGraph
 pub mod Rounds
+pub mod Rows
+pub mod Links
 pub mod RightSchedule
 pub mod OneHyperperiod
 pub mod FirstBroken

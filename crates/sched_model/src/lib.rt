@@ -3,7 +3,9 @@
 
 pub mod examples;
 pub mod laws;
+mod links;
 mod numbers;
+mod rows;
 mod schedule;
 mod trees;
 
