@@ -46,3 +46,6 @@ pub mod Costs
 pub mod FirstLists
 pub mod RowPlaces
 pub mod TaskSets
+pub mod Passing
+pub mod Sources
+pub mod TimeTests

@@ -22,7 +22,7 @@ at-below p (suc n) j l =
     (λ (other : j ≡ length (below n) → ⊥). at-other p (below n) n j other ∙ at-below p n j (⊎_elim (λ (less : j < n). less) (λ (le : n ≤ j). absurd (other (omega (arith, le, l, length-below n)))) (cases_lt j n)))
     (cases_eq j (length (below n)))
 
-or_false : (b : Bool) → (b || false) ≡ b
+pub or_false : (b : Bool) → (b || false) ≡ b
 or_false true = refl
 or_false false = refl
 
@@ -30,11 +30,11 @@ or_true : (b : Bool) → (b || true) ≡ true
 or_true true = refl
 or_true false = refl
 
-and_true : (b : Bool) → (b && true) ≡ b
+pub and_true : (b : Bool) → (b && true) ≡ b
 and_true true = refl
 and_true false = refl
 
-and_false : (b : Bool) → (b && false) ≡ false
+pub and_false : (b : Bool) → (b && false) ≡ false
 and_false true = refl
 and_false false = refl
 
@@ -55,7 +55,7 @@ one_more p n a l most = same_from_bits _ _ (λ j. ⊎_elim
         (cases_lt j n)
 
 -- the set of one place
-single : (n a : ℕ) → a < n → n ≤ 128 → 1 * 2 ^ a % 2 ^ 128 ≡ mask_of (λ x. eqb x a) (below n)
+pub single : (n a : ℕ) → a < n → n ≤ 128 → 1 * 2 ^ a % 2 ^ 128 ≡ mask_of (λ x. eqb x a) (below n)
 single n a l most = sym (or_zero_l (1 * 2 ^ a % 2 ^ 128)) ∙ ap (λ z. bit_or z (1 * 2 ^ a % 2 ^ 128)) (sym (mask_none (below n))) ∙ one_more (λ _. false) n a l most
 
 any_one : (p : ℕ → Bool) (n a : ℕ) → a < n → list_any (λ x. p x && eqb x a) (below n) ≡ p a

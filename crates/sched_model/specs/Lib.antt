@@ -13,6 +13,7 @@ pub mod SearchCost
 pub mod PrintedSchedule
 pub mod ScheduleList
 pub mod TimeLimits
+pub mod Judged
 pub mod RefutationTree
 pub mod ValidMode
 pub mod ModeLimits

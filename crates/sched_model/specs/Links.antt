@@ -1,10 +1,14 @@
 -- The graph of a mode as sets of tasks, one bit for each place
-use Rattle.std.specs.Prelude.{ℕ, List, [], ◌∷◌, length, if◌then◌else◌, nat_eq, fold, bit_and, bit_or}
+use Rattle.std.specs.Prelude.{ℕ, ◌*◌, ◌%◌, ◌^◌, Bool, not, List, [], ◌∷◌, length, if◌then◌else◌, nat_eq, fold, bit_and, bit_or}
 use Rattle.app_graph.specs.Masks.{mask_of}
 use Rattle.sched_model.specs.declared.links.Link.{Link}
 use Rattle.sched_model.specs.Numbers.{below, has}
 use Rattle.sched_model.specs.PlainMode.{PlainMode, PlainMessage}
 use Rattle.sched_model.specs.TaskGraph.{reaches}
+
+-- the place is in the set
+abbrev pub in_set : ℕ → ℕ → Bool
+in_set set a = not (nat_eq (bit_and set (1 * 2 ^ a % 2 ^ 128)) 0)
 
 -- the places below n that are listed
 abbrev pub set_of : ℕ → List ℕ → ℕ

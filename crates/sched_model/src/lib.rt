@@ -6,7 +6,9 @@ pub mod laws;
 mod links;
 mod numbers;
 mod rows;
+mod round_clauses;
 mod schedule;
+mod schedule_times;
 mod trees;
 
 pub use numbers::{hyper, instances, most_rounds};

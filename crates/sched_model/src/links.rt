@@ -1,14 +1,14 @@
 //! The graph of a mode as sets of tasks. No call takes memory.
 
-ghost use Rattle.std.specs.Prelude.{◌≡◌, ℕ, ◌<◌, ◌≤◌, ◌&&◌, All, Bool, length, map, not};
+ghost use Rattle.std.specs.Prelude.{◌≡◌, ℕ, ◌<◌, ◌≤◌, ◌&&◌, All, Bool, bit_and, length, map, nat_eq, not};
 ghost use Rattle.std.specs.List.{list_any};
 ghost use Rattle.app_graph.specs.Masks.{mask_of};
 ghost use Rattle.app_graph.specs.Validation.{KeepsRules};
 ghost use Rattle.sched_model.specs.Numbers.{below};
-ghost use Rattle.sched_model.specs.PlainMode.{message_at, plain_at};
+ghost use Rattle.sched_model.specs.PlainMode.{PlainMode, message_at, plain_at};
 ghost use Rattle.sched_model.specs.Rows.{place_in, tasks_in};
 ghost use Rattle.sched_model.specs.TaskGraph.{first, last};
-ghost use Rattle.sched_model.specs.Links.{back_from, link_of, set_of, sources_in};
+ghost use Rattle.sched_model.specs.Links.{back_from, in_set, link_of, set_of, sources_in};
 
 use crate::rows::{apps_of, find_message, place_of};
 use app_graph::{App, ModeSet};
@@ -21,10 +21,9 @@ pub(crate) struct Link {
 }
 
 /// Whether the task at the place is in the set.
-#[tactic(auto, using(crate::proofs::TaskSets::is_in))]
 pub(crate) fn holds(set: u128, place: usize) -> bool
     requires { place < 128 }
-    ensures { (p : ℕ → Bool) (n : ℕ) → place < n → n ≤ 128 → set ≡ mask_of p (below n) → result ≡ p place }
+    ensures { result ≡ in_set set place }
 {
     set & (1u128 << place) != 0
 }
@@ -80,4 +79,55 @@ fn back(links: &[Link], marked: u128, own: u128) -> u128
         }
     }
     next
+}
+
+/// The tasks that reach the one at the place, among so many tasks.
+pub(crate) fn sources(links: &[Link], count: usize, target: usize) -> u128
+    requires count { count ≤ 128 }
+    requires target { target < count }
+    ensures { (m : PlainMode) → length m.tasks ≡ count → links.now ≡ map (link_of count) m.messages → result ≡ sources_in m target }
+{
+    let own = 1u128 << target;
+    let mut marked = own;
+    for _edge in 0..count {
+        marked = back(links, marked, own);
+    }
+    marked
+}
+
+/// Whether the sets have a task in common.
+fn meet(first: u128, second: u128) -> bool
+    ensures { result ≡ not (nat_eq (bit_and first second) 0) }
+{
+    first & second != 0
+}
+
+/// Whether some message goes to a task of the set.
+fn some_goes_to(links: &[Link], own: u128) -> bool
+    ensures { result ≡ list_any (λ l. not (nat_eq (bit_and l.to own) 0)) links.now }
+{
+    links.iter().any(|link| meet(link.to, own))
+}
+
+/// Whether some message comes from a task of the set.
+fn some_comes_from(links: &[Link], own: u128) -> bool
+    ensures { result ≡ list_any (λ l. not (nat_eq (bit_and l.from own) 0)) links.now }
+{
+    links.iter().any(|link| meet(link.from, own))
+}
+
+/// Whether the task at the place consumes no message.
+pub(crate) fn is_first(links: &[Link], place: usize) -> bool
+    requires { place < 128 }
+    ensures { result ≡ not (list_any (λ l. in_set l.to place) links.now) }
+{
+    !some_goes_to(links, 1u128 << place)
+}
+
+/// Whether the task at the place produces no message.
+pub(crate) fn is_last(links: &[Link], place: usize) -> bool
+    requires { place < 128 }
+    ensures { result ≡ not (list_any (λ l. in_set l.from place) links.now) }
+{
+    !some_comes_from(links, 1u128 << place)
 }
