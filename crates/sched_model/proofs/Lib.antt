@@ -49,3 +49,4 @@ pub mod TaskSets
 pub mod Passing
 pub mod Sources
 pub mod TimeTests
+pub mod ClauseTests

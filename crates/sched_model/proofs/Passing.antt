@@ -1,6 +1,6 @@
 -- Loops that test one number after another, and stop at the first that fails
 use Rattle.std.proofs.Common.{◌≡◌, ℕ, ◌+◌, ◌<◌, ◌≤◌, Bool, true, false, ◌↔◌, IsTrue, refl, subst, arith, ⊎_elim}
-use Rattle.std.proofs.lemmas.Bool.{cases_lt}
+use Rattle.std.proofs.lemmas.Bool.{cases_lt, both_ways}
 
 -- one number more
 pub passes_one : (P : ℕ → Type 0) (k : ℕ) (b : Bool) → (IsTrue b ↔ P k) → b ≡ true → ((i : ℕ) → i < k → P i) → (i : ℕ) → i < k + 1 → P i
@@ -13,3 +13,17 @@ passes_all P k n le h = (λ e i l. h i (omega (arith, le, l)), λ f. refl)
 -- one that fails
 pub fails_at : (P : ℕ → Type 0) (k n : ℕ) (b : Bool) → k < n → (IsTrue b ↔ P k) → b ≡ false → IsTrue false ↔ ((i : ℕ) → i < n → P i)
 fails_at P k n b l e f = (λ x. absurd (cc), λ h. let t = e.1 (h k l) in absurd (cc))
+
+-- what holds, and what does not
+pub holds_so : (P : Type 0) → P → IsTrue true ↔ P
+holds_so P p = (λ e. p, λ q. refl)
+
+pub fails_so : (P : Type 0) → (P → ⊥) → IsTrue false ↔ P
+fails_so P f = (λ e. absurd (cc), λ p. absurd (f p))
+
+-- what is asked under a test alone
+pub under : (b c : Bool) (P : Type 0) → c ≡ true → (IsTrue b ↔ P) → IsTrue b ↔ (c ≡ true → P)
+under b c P h t = (λ e k. t.0 e, λ f. t.1 (f h))
+
+pub not_under : (c : Bool) (P : Type 0) → c ≡ false → IsTrue true ↔ (c ≡ true → P)
+not_under c P h = (λ e k. absurd (both_ways c h k), λ f. refl)

@@ -1,14 +1,18 @@
 //! Schedules of a mode: what a right one is, the constraints that the search solves, what the search costs, and what refutes a number of rounds.
 #![tactic(auto)]
 
+mod chain_clause;
 pub mod examples;
 pub mod laws;
 mod links;
+mod message_clause;
+mod node_clause;
 mod numbers;
 mod rows;
 mod round_clauses;
 mod schedule;
 mod schedule_times;
+mod task_clause;
 mod trees;
 
 pub use numbers::{hyper, instances, most_rounds};

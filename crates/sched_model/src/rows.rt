@@ -117,6 +117,13 @@ pub(crate) fn find_message(apps: &[App], place: usize) -> (&App, &Message)
     unreachable!()
 }
 
+/// The period of the application.
+pub(crate) fn period_of(app: &App) -> u64
+    ensures { result ≡ unsigned_abs app.now.period }
+{
+    app.period.unsigned_abs()
+}
+
 /// How many messages the applications have.
 fn count_messages(apps: &[App]) -> usize
     requires { length (messages_in apps.now) ≤ 64 }
