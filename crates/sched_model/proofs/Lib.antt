@@ -50,3 +50,4 @@ pub mod Passing
 pub mod Sources
 pub mod TimeTests
 pub mod ClauseTests
+pub mod Gaps

@@ -2,6 +2,7 @@
 
 ghost use Rattle.std.specs.Prelude.{◌≡◌, ◌↔◌, ℕ, ◌<◌, ◌≤◌, IsTrue, length, pos, ◌-ℤ◌, ◌<ℤ◌, unsigned_abs};
 ghost use Rattle.std.specs.Int.{IsGcd, int_rem_euclid};
+ghost use Rattle.tick_num.specs.Classes.{NeverMeet};
 ghost use Rattle.sched_model.specs.Judged.{IsCase, NodeShared};
 ghost use Rattle.sched_model.specs.PlainMode.{plain_at, task_at};
 ghost use Rattle.sched_model.specs.RightSchedule.{RunsApart};
@@ -33,4 +34,63 @@ fn divisor_of(first: u64, second: u64) -> u64
     ensures greatest { IsGcd first second result }
 {
     gcd(first as i64, second as i64) as u64
+}
+
+/// Whether no run of the one task, whose first run starts at `first_start`, ever meets a run of the other.
+fn are_apart(first_start: u64, first: TaskRow, second_start: u64, second: TaskRow) -> bool
+    requires first_start { first_start ≤ 2000000000000 }
+    requires second_start { second_start ≤ 2000000000000 }
+    requires first { (1 ≤ first.wcet) × (1 ≤ first.period) × (first.period ≤ 1000000000) }
+    requires second { (1 ≤ second.wcet) × (1 ≤ second.period) × (second.period ≤ 1000000000) }
+    ensures { IsTrue result ↔ NeverMeet (pos first.period) (pos first.wcet) (pos first_start) (pos second.period) (pos second.wcet) (pos second_start) }
+{
+    gcd_class_law();
+    let divisor = divisor_of(first.period, second.period);
+    let gap = gap(first_start, second_start, divisor);
+    if gap < first.wcet {
+        return false;
+    }
+    second.wcet <= divisor - gap
+}
+
+/// Whether the tasks at the places never run at once, or are on two nodes.
+fn pair_fits(set: &ModeSet, mode: u32, s: &Schedule, first: usize, second: usize) -> bool
+    requires case { IsCase set.now mode s.now }
+    requires first { first < length (plain_at set.now mode).tasks }
+    requires second { second < length (plain_at set.now mode).tasks }
+    ensures { IsTrue result ↔ NodeShared (plain_at set.now mode) s.now first second }
+{
+    let earlier = task_at(set, mode, first);
+    let later = task_at(set, mode, second);
+    if earlier.node != later.node {
+        return true;
+    }
+    are_apart(task_start(s, first), earlier, task_start(s, second), later)
+}
+
+/// Whether the task at the place never runs at once with an earlier one on its node.
+fn pairs_fit(set: &ModeSet, mode: u32, s: &Schedule, second: usize) -> bool
+    requires case { IsCase set.now mode s.now }
+    requires second { second < length (plain_at set.now mode).tasks }
+    ensures { IsTrue result ↔ ((a : ℕ) → a < second → NodeShared (plain_at set.now mode) s.now a second) }
+{
+    for first in 0..second {
+        if !pair_fits(set, mode, s, first, second) {
+            return false;
+        }
+    }
+    true
+}
+
+/// Whether no two tasks on one node ever run at once.
+pub(crate) fn nodes_fit(set: &ModeSet, mode: u32, s: &Schedule) -> bool
+    requires { IsCase set.now mode s.now }
+    ensures { IsTrue result ↔ ((a b : ℕ) → a < b → b < length (plain_at set.now mode).tasks → (task_at (plain_at set.now mode) a).node ≡ (task_at (plain_at set.now mode) b).node → RunsApart (plain_at set.now mode) s.now a b) }
+{
+    for second in 0..task_count(set, mode) {
+        if !pairs_fit(set, mode, s, second) {
+            return false;
+        }
+    }
+    true
 }
