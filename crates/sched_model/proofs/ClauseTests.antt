@@ -36,9 +36,10 @@ module _ (m : PlainMode) (s : Schedule) where
       → pos k ≡ closes s i → d ≡ (message_at m i).period → IsTrue (leb k (x + e + d)) ↔ SenderFits m s i a
   sender_last i a x e o k d holds p q r l c u =
       let end = later x e (task_at m a).wcet (task_start s a) p q in
-      let t = le_test k (x + e + d) (closes s i) _ c (later (x + e) d (message_at m i).period (task_start s a +ℤ pos (task_at m a).wcet) end u) in
-      ( λ h. record { sent = λ y. le_is (x + e) o _ (opens s i) end r l; kept = λ y. t.0 h },
-        λ f. t.1 (f.kept holds) )
+      let t = le_test k (x + e + d) (closes s i) _ c (later (x + e) d (message_at m i).period (task_start s a +ℤ pos (task_at m a).wcet) end u) in (
+        λ h. record { sent = λ y. le_is (x + e) o _ (opens s i) end r l; kept = λ y. t.0 h },
+        λ f. t.1 (f.kept holds),
+      )
 
   -- ---- consumers
   pub no_taker : (i b : ℕ) → has (message_at m i).to b ≡ false → IsTrue true ↔ TakerFits m s i b
@@ -69,15 +70,16 @@ module _ (m : PlainMode) (s : Schedule) where
 
     pub window_whole : (o k : ℕ) (b : Bool) → pos o ≡ opens s i → pos k ≡ closes s i → o < k → ((a : ℕ) → a < length m.tasks → SenderFits m s i a)
         → (IsTrue b ↔ ((a : ℕ) → a < length m.tasks → TakerFits m s i a)) → IsTrue b ↔ MessageFits m s i
-    window_whole o k b r c le senders t =
-        ( λ h. record {
-            sent = λ a x. (senders a (sender_low a x)).sent (contains_has _ a x);
-            kept = λ a x. (senders a (sender_low a x)).kept (contains_has _ a x);
-            lasts = (lt_test o k (opens s i) (closes s i) r c).0 (lt-ltb o k le);
-            taken = λ a x. (t.0 h a (taker_low a x)).taken (contains_has _ a x);
-            next = λ a x. (t.0 h a (taker_low a x)).next (contains_has _ a x);
-          },
-          λ f. t.1 (λ a x. record { taken = λ holds. f.taken a (has_contains _ a holds); next = λ holds. f.next a (has_contains _ a holds) }) )
+    window_whole o k b r c le senders t = (
+      λ h. record {
+        sent = λ a x. (senders a (sender_low a x)).sent (contains_has _ a x);
+        kept = λ a x. (senders a (sender_low a x)).kept (contains_has _ a x);
+        lasts = (lt_test o k (opens s i) (closes s i) r c).0 (lt-ltb o k le);
+        taken = λ a x. (t.0 h a (taker_low a x)).taken (contains_has _ a x);
+        next = λ a x. (t.0 h a (taker_low a x)).next (contains_has _ a x);
+      },
+      λ f. t.1 (λ a x. record { taken = λ holds. f.taken a (has_contains _ a holds); next = λ holds. f.next a (has_contains _ a holds) }),
+    )
 
   -- ---- chains
   pub chain_last : (f l x e y d : ℕ) → pos x ≡ task_start s l → e ≡ (task_at m l).wcet → pos y ≡ task_start s f → d ≡ (task_at m f).deadline → IsTrue (leb (x + e) (y + d)) ↔ ChainFits m s f l
@@ -87,6 +89,7 @@ module _ (m : PlainMode) (s : Schedule) where
       (f l : ℕ) → f < length m.tasks → l < length m.tasks → first m f ≡ true → last m l ≡ true → Reaches m f l → ChainFits m s f l)
       × (((f l : ℕ) → f < length m.tasks → l < length m.tasks → first m f ≡ true → last m l ≡ true → Reaches m f l → ChainFits m s f l) →
       (l : ℕ) → l < length m.tasks → last m l ≡ true → ChainsTo m s l)
-  chains_are ok =
-      ( λ h f l lf ll a b r. h l ll b f lf a (reached m ok f l ll r),
-        λ h l ll b f lf a e. h f l lf ll a b (reaches_walk m (length m.tasks) f l e) )
+  chains_are ok = (
+    λ h f l lf ll a b r. h l ll b f lf a (reached m ok f l ll r),
+    λ h l ll b f lf a e. h f l lf ll a b (reaches_walk m (length m.tasks) f l e),
+  )

@@ -183,7 +183,7 @@ module _ (m : PlainMode) (s : Schedule) (ok : IsValid m) (shape : HasShape m (le
         (dec_below (λ i. (j : ℕ) → j < length s.starts → E i j) (length m.messages) (λ i l. dec_below (E i) (length s.starts) (λ j lj. dec_if (dec_true _) (dec_le _ _)))))
 
 -- ---- the first broken clause
-one_more : (m : PlainMode) (s : Schedule) (c : ℕ) → ((k : ℕ) → k < c → Keeps m s k) → Keeps m s c → (k : ℕ) → k < suc c → Keeps m s k
+pub one_more : (m : PlainMode) (s : Schedule) (c : ℕ) → ((k : ℕ) → k < c → Keeps m s k) → Keeps m s c → (k : ℕ) → k < suc c → Keeps m s k
 one_more m s c f h k l = ⊎_elim (λ (less : k < c). f k less) (λ (le : c ≤ k). subst (Keeps m s) (let e : c ≡ k = omega (arith, le, l) in e) h) (cases_lt k c)
 
 pub decided : (m : PlainMode) (s : Schedule) → IsValid m → HasShape m (length s.starts) s → IsSchedule m (length s.starts) s ⊎ ((clause : ℕ) × BreaksFirst m s clause)

@@ -26,11 +26,11 @@ split d r n h e =
 at_most_from_times : (z y : ℤ) (g : ℕ) → (z *ℤ pos g) <ℤ ((y +ℤ pos 1) *ℤ pos g) → z ≤ℤ y
 at_most_from_times z y g h =
     ⊎_elim
-      (λ (less : up y + down z < up z + down y).
-        let m : (up y + down z + 1) * g ≤ (up z + down y) * g = mul-le-mul_right g (omega (arith, less)) in
-        absurd (omega (arith, ints, h, m, sum-times y (pos 1) (pos g))))
-      (λ (le : up z + down y ≤ up y + down z). omega (arith, ints, le))
-      (cases_lt (up y + down z) (up z + down y))
+    (λ (less : up y + down z < up z + down y).
+    let m : (up y + down z + 1) * g ≤ (up z + down y) * g = mul-le-mul_right g (omega (arith, less)) in
+    absurd (omega (arith, ints, h, m, sum-times y (pos 1) (pos g))))
+    (λ (le : up z + down y ≤ up y + down z). omega (arith, ints, le))
+    (cases_lt (up y + down z) (up z + down y))
 
 -- the gap holds the first run before it and the second in it exactly where the runs never meet
 gap_decides : (p1 e1 o1 p2 e2 o2 r : ℤ) (n : ℕ) → GcdClassLaw → pos 1 ≤ℤ p1 → pos 1 ≤ℤ e1 → pos 0 ≤ℤ o1 → pos 1 ≤ℤ p2 → pos 1 ≤ℤ e2 → pos 0 ≤ℤ o2 → 0 < n →
@@ -39,17 +39,18 @@ gap_decides : (p1 e1 o1 p2 e2 o2 r : ℤ) (n : ℕ) → GcdClassLaw → pos 1 �
 gap_decides p1 e1 o1 p2 e2 o2 r n law a1 b1 c1 a2 b2 c2 some i e =
     let s = split (o2 -ℤ o1) r n some e in
     let q = s.0 in
-    let l = law p1 e1 o1 p2 e2 o2 (pos n) (omega (arith, ints)) (omega (arith, ints)) (omega (arith, ints)) i b1 b2 c1 c2 in
-    ( λ h. l.1 (q, (omega (arith, ints, s, h), omega (arith, ints, s, h, sum-times q (pos 1) (pos n)))),
+    let l = law p1 e1 o1 p2 e2 o2 (pos n) (omega (arith, ints)) (omega (arith, ints)) (omega (arith, ints)) i b1 b2 c1 c2 in (
+      λ h. l.1 (q, (omega (arith, ints, s, h), omega (arith, ints, s, h, sum-times q (pos 1) (pos n)))),
       λ h.
-        let w = l.0 h in
-        let z = w.0 in
-        let t = sum-times z (pos 1) (pos n) in
-        let u = sum-times q (pos 1) (pos n) in
-        let low : z ≤ℤ q = at_most_from_times z q n (omega (arith, ints, s, w.1, t, u, b1)) in
-        let high : q ≤ℤ z = at_most_from_times q z n (omega (arith, ints, s, w.1, t, u, b2)) in
-        let same = ap (λ (x : ℤ). x *ℤ pos n) (let k : q ≡ z = same_in _ _ (omega (arith, ints, low, high)) in k) in
-        (omega (arith, ints, s, w.1, same), omega (arith, ints, s, w.1, same, t)) )
+          let w = l.0 h in
+          let z = w.0 in
+          let t = sum-times z (pos 1) (pos n) in
+          let u = sum-times q (pos 1) (pos n) in
+          let low : z ≤ℤ q = at_most_from_times z q n (omega (arith, ints, s, w.1, t, u, b1)) in
+          let high : q ≤ℤ z = at_most_from_times q z n (omega (arith, ints, s, w.1, t, u, b2)) in
+          let same = ap (λ (x : ℤ). x *ℤ pos n) (let k : q ≡ z = same_in _ _ (omega (arith, ints, low, high)) in k) in
+          (omega (arith, ints, s, w.1, same), omega (arith, ints, s, w.1, same, t)),
+    )
 
 module _ (p1 e1 o1 p2 e2 o2 r n : ℕ) (law : GcdClassLaw) (a1 : 1 ≤ p1) (b1 : 1 ≤ e1) (a2 : 1 ≤ p2) (b2 : 1 ≤ e2) (some : 1 ≤ n) (i : IsGcd p1 p2 n)
     (e : pos r ≡ int_rem_euclid (pos o2 -ℤ pos o1) (pos n)) (within : r < n) where
@@ -65,9 +66,10 @@ module _ (p1 e1 o1 p2 e2 o2 r n : ℕ) (law : GcdClassLaw) (a1 : 1 ≤ p1) (b1 :
 
   -- the second run decides
   pub second_decides : e1 ≤ r → IsTrue (leb e2 (n - r)) ↔ Apart
-  second_decides l =
-      ( λ t. let h = leb-true e2 (n - r) t in both.0 (omega (arith, ints, l), omega (arith, ints, h, within)),
-        λ f. let h = (both.1 f).1 in le-leb e2 (n - r) (omega (arith, ints, h, within)) )
+  second_decides l = (
+    λ t. let h = leb-true e2 (n - r) t in both.0 (omega (arith, ints, l), omega (arith, ints, h, within)),
+    λ f. let h = (both.1 f).1 in le-leb e2 (n - r) (omega (arith, ints, h, within)),
+  )
 
 -- the same of equal numbers
 pub same_runs : (b : Bool) (p1 e1 p2 e2 q1 f1 q2 f2 : ℕ) (o1 o2 w1 w2 : ℤ) → p1 ≡ q1 → e1 ≡ f1 → o1 ≡ w1 → p2 ≡ q2 → e2 ≡ f2 → o2 ≡ w2

@@ -51,3 +51,5 @@ pub mod Sources
 pub mod TimeTests
 pub mod ClauseTests
 pub mod Gaps
+pub mod Visits
+pub mod Verdicts

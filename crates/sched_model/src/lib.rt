@@ -8,13 +8,16 @@ mod links;
 mod message_clause;
 mod node_clause;
 mod numbers;
-mod rows;
 mod round_clauses;
+mod rows;
 mod schedule;
 mod schedule_times;
+mod table_clauses;
 mod task_clause;
 mod trees;
+mod verdict;
 
 pub use numbers::{hyper, instances, most_rounds};
 pub use schedule::Schedule;
 pub use trees::TreeNode;
+pub use verdict::verify;

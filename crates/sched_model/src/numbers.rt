@@ -56,7 +56,7 @@ fn apps_of(set: &ModeSet, mode: u32) -> &[App]
 }
 
 /// The hyperperiod of the mode, in ticks.
-fn ticks_of(set: &ModeSet, mode: u32) -> u64
+pub(crate) fn ticks_of(set: &ModeSet, mode: u32) -> u64
     requires rules { KeepsRules set.now }
     requires mode { mode < length set.now.modes }
     ensures value { result ≡ hyper (plain_at set.now mode) }

@@ -26,5 +26,5 @@ returns c =
     let h = c.holds.ensures ∙ is_in c.args.sources c.args.start (λ a. reaches m a c.args.end) (length m.tasks) c.requires.start c.requires.few c.requires.sources in
     let f = sym (first_is m c.args.links.now c.args.start c.requires.start c.requires.few c.requires.links) ∙ sym c.is_first.ensures ∙ c.if-not-is_first.false in
     let t = chain_last m c.args.s.now c.args.start c.args.end c.task_start.result c.task_at.result.wcet c.task_start-2.result c.task_at-2.result.deadline
-        c.task_start.ensures.value c.task_at.ensures.wcet c.task_start-2.ensures.value c.task_at-2.ensures.deadline in
+    c.task_start.ensures.value c.task_at.ensures.wcet c.task_start-2.ensures.value c.task_at-2.ensures.deadline in
     (λ e a r. t.0 e, λ g. t.1 (g f (sym h ∙ c.if-not-holds.false)))

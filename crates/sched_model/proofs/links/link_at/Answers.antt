@@ -33,7 +33,7 @@ returns c =
     let shown = message_shown c.args.set.now c.args.mode xs c.apps_of-apps.ensures c.requires.rules c.requires.mode c.args.place c.requires.place in
     let count = tasks_are c.args.set.now c.args.mode xs c.apps_of-apps.ensures in
     let from = c.mask.ensures ∙ ap (λ (l : List ℕ). set_of (length (tasks_in xs)) (map (place_in (tasks_in xs)) l)) (c.as_slice.ensures ∙ ap (λ (x : Message). x.from) c.find_message.ensures.message)
-        ∙ ap (set_of (length (tasks_in xs))) shown.from ∙ ap (λ n. set_of n (message_at m c.args.place).from) count in
+    ∙ ap (set_of (length (tasks_in xs))) shown.from ∙ ap (λ n. set_of n (message_at m c.args.place).from) count in
     let to = c.mask-2.ensures ∙ ap (λ (l : List ℕ). set_of (length (tasks_in xs)) (map (place_in (tasks_in xs)) l)) (c.as_slice-2.ensures ∙ ap (λ (x : Message). x.to) c.find_message.ensures.message)
-        ∙ ap (set_of (length (tasks_in xs))) shown.to ∙ ap (λ n. set_of n (message_at m c.args.place).to) count in
+    ∙ ap (set_of (length (tasks_in xs))) shown.to ∙ ap (λ n. set_of n (message_at m c.args.place).to) count in
     ap (λ n. let l : Link = record { from = n; to = c.mask-2.result } in l) from ∙ ap (λ n. let l : Link = record { from = set_of (length m.tasks) (message_at m c.args.place).from; to = n } in l) to

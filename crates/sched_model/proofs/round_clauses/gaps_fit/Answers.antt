@@ -10,9 +10,10 @@ loop-place-preserved c =
 
 pub returns : goal.returns
 returns c =
-    let n = c.round_count-place-end.ensures in
-    ( λ e. record {
+    let n = c.round_count-place-end.ensures in (
+      λ e. record {
         within = λ j l. (c.loop-place.invariant j (omega (arith, l, n, c.loop-place-test.false))).next l;
         across = λ j h. (c.loop-place.invariant j (omega (arith, h, n, c.loop-place-test.false))).last h;
       },
-      λ r. refl )
+      λ r. refl,
+    )

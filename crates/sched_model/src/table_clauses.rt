@@ -1,0 +1,327 @@
+//! The clauses on the rounds' tables. No call takes memory.
+
+ghost use Rattle.std.specs.Prelude.{◌≡◌, ◌↔◌, ℕ, ◌+◌, ◌-◌, ◌*◌, ◌/◌, ◌<◌, ◌≤◌, IsTrue, [], length, map, pos, slice_index_or, true};
+ghost use Rattle.sched_model.specs.Judged.{IsCase, ShowsWindow};
+ghost use Rattle.sched_model.specs.Links.{link_of};
+ghost use Rattle.sched_model.specs.Numbers;
+ghost use Rattle.sched_model.specs.OneHyperperiod.{EndsInWindow, EntriesFit, Lists, ServedOnce, ServesFirst, first_start, window_then};
+ghost use Rattle.sched_model.specs.PlainMode.{hyper, instance_count, message_at, plain_at};
+ghost use Rattle.sched_model.specs.RightSchedule.{ExactlyOne, TableFits};
+
+use crate::links::Link;
+use crate::message_clause::{Window, window_of};
+use crate::round_clauses::round_of;
+use crate::rows::message_count;
+use crate::schedule::Schedule;
+use crate::schedule_times::{round_count, round_start};
+use app_graph::ModeSet;
+
+/// Whether the number is listed.
+fn has(numbers: &[u32], number: u32) -> bool
+    ensures { result ≡ Numbers.has numbers.now number }
+{
+    numbers.iter().any(|listed| number == *listed)
+}
+
+/// Whether no number stands twice.
+fn are_distinct(numbers: &[u32]) -> bool
+    ensures { result ≡ Numbers.distinct numbers.now }
+{
+    let mut rest = numbers;
+    while let [first, others @ ..] = rest {
+        if has(others, *first) {
+            return false;
+        }
+        rest = others;
+    }
+    true
+}
+
+/// Whether the table of the round at the place has no more messages than a round has slots, and none twice.
+fn table_fits(set: &ModeSet, mode: u32, s: &Schedule, place: usize) -> bool
+    requires case { IsCase set.now mode s.now }
+    requires place { place < length s.now.tables }
+    ensures { IsTrue result ↔ TableFits (plain_at set.now mode) (slice_index_or s.now.tables place []) }
+{
+    let table = s.tables.as_slice()[place].as_slice();
+    if table.len() > set.slots as usize {
+        return false;
+    }
+    are_distinct(table)
+}
+
+/// Whether each table has no more messages than a round has slots, and none twice.
+fn tables_fit(set: &ModeSet, mode: u32, s: &Schedule) -> bool
+    requires { IsCase set.now mode s.now }
+    ensures { IsTrue result ↔ ((j : ℕ) → j < length s.now.tables → TableFits (plain_at set.now mode) (slice_index_or s.now.tables j [])) }
+{
+    for place in 0..s.tables.as_slice().len() {
+        if !table_fits(set, mode, s, place) {
+            return false;
+        }
+    }
+    true
+}
+
+/// Whether the round at the place carries the message.
+fn lists(set: &ModeSet, mode: u32, s: &Schedule, window: Window, place: usize) -> bool
+    requires case { IsCase set.now mode s.now }
+    requires window { ShowsWindow (plain_at set.now mode) s.now window }
+    requires place { place < length s.now.starts }
+    ensures { IsTrue result ↔ Lists (plain_at set.now mode) s.now window.message place }
+{
+    has(s.tables.as_slice()[place].as_slice(), window.number)
+}
+
+/// When a round that starts at `start` in a hyperperiod of so many ticks first starts at `opens` or later.
+fn first_start(start: u64, opens: u64, ticks: u64) -> u64
+    requires start { start ≤ 2000000000000 }
+    requires opens { opens ≤ 2000000000000 }
+    requires ticks { (1 ≤ ticks) × (ticks ≤ 1000000000000) }
+    ensures value { result ≡ start + (opens + ticks - 1 - start) / ticks * ticks }
+    ensures most { result ≤ 5000000000000 }
+{
+    start + (opens + ticks - 1).saturating_sub(start) / ticks * ticks
+}
+
+/// When the round at the place first starts at the message's opening or later.
+fn first_in(set: &ModeSet, mode: u32, s: &Schedule, window: Window, ticks: u64, place: usize) -> u64
+    requires case { IsCase set.now mode s.now }
+    requires window { ShowsWindow (plain_at set.now mode) s.now window }
+    requires ticks { ticks ≡ hyper (plain_at set.now mode) }
+    requires limits { (1 ≤ ticks) × (ticks ≤ 1000000000000) }
+    requires place { place < length s.now.starts }
+    ensures value { pos result ≡ first_start (plain_at set.now mode) s.now window.message place }
+    ensures most { result ≤ 5000000000000 }
+{
+    first_start(round_start(s, place), window.opens, ticks)
+}
+
+/// How many windows of the message have opened before the last one that is open or past at the moment.
+fn window_at(window: Window, moment: u64) -> u64
+    requires { 1 ≤ window.period }
+    ensures value { result ≡ (moment - window.opens) / window.period }
+{
+    moment.saturating_sub(window.opens) / window.period
+}
+
+/// Where a round that carries a message lies the first time.
+#[derive(Clone, Copy, Drop)]
+struct Visit {
+    /// The number of the window that has opened last by then, from 0.
+    window: u64,
+    /// Whether the round ends before that window closes.
+    ends: bool,
+}
+
+/// Where the round at the place lies when it first starts at the message's opening or later.
+fn visit_of(
+    set: &ModeSet,
+    mode: u32,
+    s: &Schedule,
+    window: Window,
+    ticks: u64,
+    place: usize,
+) -> Visit
+    requires case { IsCase set.now mode s.now }
+    requires window { ShowsWindow (plain_at set.now mode) s.now window }
+    requires ticks { ticks ≡ hyper (plain_at set.now mode) }
+    requires limits { (1 ≤ ticks) × (ticks ≤ 1000000000000) }
+    requires place { place < length s.now.starts }
+    ensures which { result.window ≡ window_then (plain_at set.now mode) s.now window.message place }
+    ensures ends { IsTrue result.ends ↔ EndsInWindow (plain_at set.now mode) s.now window.message place }
+{
+    let first = first_in(set, mode, s, window, ticks, place);
+    let which = window_at(window, first);
+    let end = first + round_of(set, mode);
+    Visit {
+        window: which,
+        ends: end <= window.closes + which * window.period,
+    }
+}
+
+/// Whether the round at the place carries the message, first in its window `which`.
+fn serves(
+    set: &ModeSet,
+    mode: u32,
+    s: &Schedule,
+    window: Window,
+    ticks: u64,
+    which: u64,
+    place: usize,
+) -> bool
+    requires case { IsCase set.now mode s.now }
+    requires window { ShowsWindow (plain_at set.now mode) s.now window }
+    requires ticks { ticks ≡ hyper (plain_at set.now mode) }
+    requires limits { (1 ≤ ticks) × (ticks ≤ 1000000000000) }
+    requires place { place < length s.now.starts }
+    ensures { IsTrue result ↔ ServesFirst (plain_at set.now mode) s.now window.message which place }
+{
+    if !lists(set, mode, s, window, place) {
+        return false;
+    }
+    let visit = visit_of(set, mode, s, window, ticks, place);
+    if visit.window != which {
+        return false;
+    }
+    visit.ends
+}
+
+/// The first round from the place `from` on that carries the message, first in its window `which`; the number of rounds where there is none.
+fn next_serving(
+    set: &ModeSet,
+    mode: u32,
+    s: &Schedule,
+    window: Window,
+    ticks: u64,
+    which: u64,
+    from: usize,
+) -> usize
+    requires case { IsCase set.now mode s.now }
+    requires window { ShowsWindow (plain_at set.now mode) s.now window }
+    requires ticks { ticks ≡ hyper (plain_at set.now mode) }
+    requires limits { (1 ≤ ticks) × (ticks ≤ 1000000000000) }
+    requires from { from ≤ length s.now.starts }
+    ensures most { result ≤ length s.now.starts }
+    ensures least { from ≤ result }
+    ensures before { (j : ℕ) → from ≤ j → j < result → ¬ (ServesFirst (plain_at set.now mode) s.now window.message which j) }
+    ensures found { result < length s.now.starts → ServesFirst (plain_at set.now mode) s.now window.message which result }
+{
+    let count = round_count(s);
+    for place in from..count {
+        if serves(set, mode, s, window, ticks, which, place) {
+            return place;
+        }
+    }
+    count
+}
+
+/// Whether exactly one round carries the message, first in its window `which`.
+fn is_served(set: &ModeSet, mode: u32, s: &Schedule, window: Window, ticks: u64, which: u64) -> bool
+    requires case { IsCase set.now mode s.now }
+    requires window { ShowsWindow (plain_at set.now mode) s.now window }
+    requires ticks { ticks ≡ hyper (plain_at set.now mode) }
+    requires limits { (1 ≤ ticks) × (ticks ≤ 1000000000000) }
+    ensures { IsTrue result ↔ ExactlyOne (ServesFirst (plain_at set.now mode) s.now window.message which) }
+{
+    let count = round_count(s);
+    let first = next_serving(set, mode, s, window, ticks, which, 0);
+    if first == count {
+        return false;
+    }
+    next_serving(set, mode, s, window, ticks, which, first + 1) == count
+}
+
+/// Whether each window of a hyperperiod has exactly one round that carries the message in it.
+fn are_served(set: &ModeSet, mode: u32, s: &Schedule, window: Window, ticks: u64) -> bool
+    requires case { IsCase set.now mode s.now }
+    requires window { ShowsWindow (plain_at set.now mode) s.now window }
+    requires ticks { ticks ≡ hyper (plain_at set.now mode) }
+    requires limits { (1 ≤ ticks) × (ticks ≤ 1000000000000) }
+    ensures { IsTrue result ↔ ((k : ℕ) → k < instance_count (plain_at set.now mode) (message_at (plain_at set.now mode) window.message) → ExactlyOne (ServesFirst (plain_at set.now mode) s.now window.message k)) }
+{
+    for which in 0..ticks / window.period {
+        if !is_served(set, mode, s, window, ticks, which) {
+            return false;
+        }
+    }
+    true
+}
+
+/// Whether each window of each message has exactly one round that carries it.
+fn messages_served(set: &ModeSet, mode: u32, s: &Schedule, links: &[Link], ticks: u64) -> bool
+    requires case { IsCase set.now mode s.now }
+    requires links { links.now ≡ map (link_of (length (plain_at set.now mode).tasks)) (plain_at set.now mode).messages }
+    requires ticks { ticks ≡ hyper (plain_at set.now mode) }
+    requires limits { (1 ≤ ticks) × (ticks ≤ 1000000000000) }
+    ensures { IsTrue result ↔ ((i : ℕ) → i < length (plain_at set.now mode).messages → (k : ℕ) → k < instance_count (plain_at set.now mode) (message_at (plain_at set.now mode) i) → ExactlyOne (ServesFirst (plain_at set.now mode) s.now i k)) }
+{
+    for message in 0..message_count(set, mode) {
+        let window = window_of(set, mode, s, links, message);
+        if !are_served(set, mode, s, window, ticks) {
+            return false;
+        }
+    }
+    true
+}
+
+/// Whether the tables fit, and each window of a hyperperiod has exactly one round that carries its message.
+pub(crate) fn served_once(
+    set: &ModeSet,
+    mode: u32,
+    s: &Schedule,
+    links: &[Link],
+    ticks: u64,
+) -> bool
+    requires case { IsCase set.now mode s.now }
+    requires links { links.now ≡ map (link_of (length (plain_at set.now mode).tasks)) (plain_at set.now mode).messages }
+    requires ticks { ticks ≡ hyper (plain_at set.now mode) }
+    requires limits { (1 ≤ ticks) × (ticks ≤ 1000000000000) }
+    ensures { IsTrue result ↔ ServedOnce (plain_at set.now mode) s.now }
+{
+    if !tables_fit(set, mode, s) {
+        return false;
+    }
+    messages_served(set, mode, s, links, ticks)
+}
+
+/// Whether the round at the place ends before the window closes, where it carries the message.
+fn entry_fits(
+    set: &ModeSet,
+    mode: u32,
+    s: &Schedule,
+    window: Window,
+    ticks: u64,
+    place: usize,
+) -> bool
+    requires case { IsCase set.now mode s.now }
+    requires window { ShowsWindow (plain_at set.now mode) s.now window }
+    requires ticks { ticks ≡ hyper (plain_at set.now mode) }
+    requires limits { (1 ≤ ticks) × (ticks ≤ 1000000000000) }
+    requires place { place < length s.now.starts }
+    ensures { IsTrue result ↔ (Lists (plain_at set.now mode) s.now window.message place → EndsInWindow (plain_at set.now mode) s.now window.message place) }
+{
+    if !lists(set, mode, s, window, place) {
+        return true;
+    }
+    visit_of(set, mode, s, window, ticks, place).ends
+}
+
+/// Whether each round that carries the message ends before the window closes.
+fn entries_of(set: &ModeSet, mode: u32, s: &Schedule, window: Window, ticks: u64) -> bool
+    requires case { IsCase set.now mode s.now }
+    requires window { ShowsWindow (plain_at set.now mode) s.now window }
+    requires ticks { ticks ≡ hyper (plain_at set.now mode) }
+    requires limits { (1 ≤ ticks) × (ticks ≤ 1000000000000) }
+    ensures { IsTrue result ↔ ((j : ℕ) → j < length s.now.starts → Lists (plain_at set.now mode) s.now window.message j → EndsInWindow (plain_at set.now mode) s.now window.message j) }
+{
+    for place in 0..round_count(s) {
+        if !entry_fits(set, mode, s, window, ticks, place) {
+            return false;
+        }
+    }
+    true
+}
+
+/// Whether each round that carries a message ends before the window closes.
+pub(crate) fn entries_fit(
+    set: &ModeSet,
+    mode: u32,
+    s: &Schedule,
+    links: &[Link],
+    ticks: u64,
+) -> bool
+    requires case { IsCase set.now mode s.now }
+    requires links { links.now ≡ map (link_of (length (plain_at set.now mode).tasks)) (plain_at set.now mode).messages }
+    requires ticks { ticks ≡ hyper (plain_at set.now mode) }
+    requires limits { (1 ≤ ticks) × (ticks ≤ 1000000000000) }
+    ensures { IsTrue result ↔ EntriesFit (plain_at set.now mode) s.now }
+{
+    for message in 0..message_count(set, mode) {
+        let window = window_of(set, mode, s, links, message);
+        if !entries_of(set, mode, s, window, ticks) {
+            return false;
+        }
+    }
+    true
+}
