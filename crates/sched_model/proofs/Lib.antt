@@ -53,3 +53,4 @@ pub mod ClauseTests
 pub mod Gaps
 pub mod Visits
 pub mod Verdicts
+pub mod TestLaws

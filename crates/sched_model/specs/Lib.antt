@@ -20,3 +20,4 @@ pub mod ModeLimits
 pub mod ProblemLimits
 pub mod Laws
 pub mod Examples
+pub mod TestModes

@@ -21,3 +21,6 @@ pub use numbers::{hyper, instances, most_rounds};
 pub use schedule::Schedule;
 pub use trees::TreeNode;
 pub use verdict::verify;
+
+#[cfg(test)]
+mod verdict_tests;
