@@ -1,6 +1,5 @@
 pub mod Words
 pub mod Rules
-pub mod Spelling
 pub mod Hyperperiod
 pub mod ValueRules
 pub mod Cycles

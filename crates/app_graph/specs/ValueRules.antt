@@ -12,7 +12,7 @@ use Rattle.app_graph.specs.declared.raw.RawApp.{RawApp}
 use Rattle.app_graph.specs.declared.raw.RawMode.{RawMode}
 use Rattle.app_graph.specs.declared.raw.RawSet.{RawSet}
 use Rattle.app_graph.specs.Rules.{Rule, unless, first_of, each, each_after}
-use Rattle.app_graph.specs.Spelling.{is_name}
+use Rattle.ttw_text.specs.Names.{is_name}
 use Rattle.app_graph.specs.Hyperperiod.{hyperperiod}
 
 -- the number is from low to high

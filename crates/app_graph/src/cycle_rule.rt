@@ -8,9 +8,8 @@ ghost use Rattle.app_graph.specs.ValueRules;
 ghost use Rattle.app_graph.specs.ValueRules.{among};
 
 use crate::faults::GraphFault;
-use crate::names::Name;
+use crate::names::{Name, is_among};
 use crate::raw::{RawApp, RawMessage, RawTask};
-use crate::spelling::is_among;
 use std::alloc::{AllocError, Global};
 
 /// The producers and the consumers of a message, one bit for each task of the application.

@@ -16,7 +16,6 @@ mod numbering;
 mod queries;
 mod raw;
 mod size_rules;
-mod spelling;
 mod task_rules;
 #[cfg(test)]
 mod tests;

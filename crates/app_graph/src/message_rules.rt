@@ -11,9 +11,8 @@ use crate::checks::few;
 use crate::faults::GraphFault;
 use crate::keys::Key;
 use crate::name_rules::{check_ends, check_name, is_earlier_message};
-use crate::names::Name;
+use crate::names::{Name, is_among, is_same};
 use crate::raw::{RawApp, RawMessage, RawTask};
-use crate::spelling::{is_among, is_same};
 use std::alloc::Global;
 
 /// Whether the applications have fewer than 64 messages, `more` others counted too.

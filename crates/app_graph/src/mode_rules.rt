@@ -12,11 +12,12 @@ use crate::faults::GraphFault;
 use crate::keys::Key;
 use crate::message_rules::{check_inputs, check_messages};
 use crate::name_rules::{check_name, check_nodes, is_app_name, is_mode_name};
+use crate::names::is_among;
 use crate::raw::{RawApp, RawMode, RawSet};
 use crate::size_rules::check_sizes;
-use crate::spelling::{is_among, is_name};
 use crate::task_rules::check_tasks;
 use std::alloc::Global;
+use ttw_text::is_name;
 
 /// An application by itself.
 fn check_own(alloc: Global, earlier: &[RawApp], app: &RawApp) -> Result<(), GraphFault>
@@ -112,7 +113,7 @@ fn check_network(alloc: Global, set: &RawSet) -> Result<(), GraphFault>
     in_range(!nodes.is_empty(), Key::KNodes)?;
     few(nodes.len() <= 64, Key::KNodes)?;
     check_nodes(alloc, nodes)?;
-    in_range(is_name(&set.host), Key::KHost)?;
+    in_range(is_name(set.host.as_bytes()), Key::KHost)?;
     known(alloc, is_among(&set.host, nodes), &set.host)
 }
 

@@ -9,10 +9,10 @@ ghost use Rattle.app_graph.specs.ValueRules.{ends, is_app, is_message, is_mode, 
 use crate::checks::{few, in_range, known, new_name};
 use crate::faults::GraphFault;
 use crate::keys::Key;
-use crate::names::Name;
+use crate::names::{Name, is_among, is_same};
 use crate::raw::{RawApp, RawMessage, RawMode, RawTask};
-use crate::spelling::{is_among, is_name, is_same};
 use std::alloc::Global;
+use ttw_text::is_name;
 
 /// Whether one of the modes has the name.
 pub(crate) fn is_mode_name(name: &Name, modes: &[RawMode]) -> bool
@@ -84,7 +84,7 @@ pub(crate) fn is_earlier_message(name: &Name, apps: &[RawApp], messages: &[RawMe
 pub(crate) fn check_name(alloc: Global, name: &Name, taken: bool) -> Result<(), GraphFault>
     ensures { Checks result (named name.now taken) }
 {
-    in_range(is_name(name), Key::KName)?;
+    in_range(is_name(name.as_bytes()), Key::KName)?;
     new_name(alloc, !taken, name)
 }
 
@@ -98,7 +98,7 @@ fn check_listed(
 ) -> Result<(), GraphFault>
     ensures { Checks result (listed key (λ _. is_known) earlier.now name.now) }
 {
-    in_range(is_name(name), key)?;
+    in_range(is_name(name.as_bytes()), key)?;
     new_name(alloc, !is_among(name, earlier), name)?;
     known(alloc, is_known, name)
 }

@@ -1,6 +1,8 @@
 //! Names, as texts that contracts see as lists of bytes.
 
 ghost use Rattle.std.specs.Prelude.{◌≡◌, IfOk};
+ghost use Rattle.std.specs.Str.{bytes_eq};
+ghost use Rattle.app_graph.specs.ValueRules.{among};
 
 use std::alloc::{AllocError, Global};
 use std::marker::Model;
@@ -42,4 +44,18 @@ impl Name {
     {
         Name::copied(alloc, self.as_bytes())
     }
+}
+
+/// Whether two names are equal.
+pub(crate) fn is_same(name: &Name, other: &Name) -> bool
+    ensures { result ≡ bytes_eq name.now other.now }
+{
+    name.as_bytes() == other.as_bytes()
+}
+
+/// Whether the name is one of the names.
+pub(crate) fn is_among(name: &Name, names: &[Name]) -> bool
+    ensures { result ≡ among name.now names.now }
+{
+    names.iter().any(|other| is_same(name, other))
 }

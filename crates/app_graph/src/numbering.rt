@@ -6,9 +6,8 @@ ghost use Rattle.app_graph.specs.Numbering.{app_of, apps_from, message_count, me
 
 use crate::lists::ListOf;
 use crate::mode_set::{App, Message, Mode, ModeSet, Task};
-use crate::names::Name;
+use crate::names::{Name, is_same};
 use crate::raw::{RawApp, RawMessage, RawMode, RawSet, RawTask};
-use crate::spelling::is_same;
 use std::alloc::{AllocError, Global};
 
 /// The place of the first node with the name.

@@ -11,8 +11,8 @@ ghost use Rattle.app_graph.specs.ValueRules.{hyper_of, pairs_in, runs_in, size_v
 use crate::checks::few;
 use crate::faults::GraphFault;
 use crate::keys::Key;
+use crate::names::is_same;
 use crate::raw::{RawApp, RawMode, RawSet, RawTask};
-use crate::spelling::is_same;
 use std::alloc::Global;
 use tick_num::lcm_up_to;
 

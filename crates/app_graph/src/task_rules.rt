@@ -10,9 +10,10 @@ use crate::checks::{few, in_range, is_within, known};
 use crate::faults::GraphFault;
 use crate::keys::Key;
 use crate::name_rules::{check_name, is_earlier_task};
+use crate::names::is_among;
 use crate::raw::{RawApp, RawSet, RawTask};
-use crate::spelling::{is_among, is_name};
 use std::alloc::Global;
+use ttw_text::is_name;
 
 /// Whether the applications have fewer than 128 tasks, `more` others counted too.
 fn has_room(apps: &[RawApp], more: usize) -> bool
@@ -46,14 +47,14 @@ fn check_task(
         &task.name,
         is_earlier_task(&task.name, earlier, before),
     )?;
-    in_range(is_name(&task.node), Key::KNode)?;
+    in_range(is_name(task.node.as_bytes()), Key::KNode)?;
     known(
         alloc,
         is_among(&task.node, set.nodes.as_slice()),
         &task.node,
     )?;
     in_range(is_within(1, app.period, task.wcet), Key::KWcet)?;
-    in_range(is_name(&task.body), Key::KBody)?;
+    in_range(is_name(task.body.as_bytes()), Key::KBody)?;
     few(has_room(earlier, before.len()), Key::KTask)
 }
 

@@ -1,9 +1,9 @@
 //! What is wrong with a mode file.
 
-use crate::spelling::is_name;
 use app_graph::{GraphFault, Key, Name};
 use std::alloc::{AllocError, AllocFailed, Global};
 use std::marker::Model;
+use ttw_text::is_name;
 
 /// A key as a fault tells it: the key where it is spelled as a name, and `?` otherwise.
 /// A contract sees its bytes.

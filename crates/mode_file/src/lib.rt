@@ -4,7 +4,6 @@
 mod faults;
 pub mod laws;
 mod reading;
-mod spelling;
 mod tables;
 mod unlisted;
 mod values;

@@ -18,46 +18,19 @@ use Rattle.app_graph.specs.declared.mode_set.Mode.{Mode}
 use Rattle.app_graph.specs.declared.mode_set.Task.{Task}
 use Rattle.app_graph.specs.declared.mode_set.Message.{Message}
 use Rattle.app_graph.specs.Rules.{Rule, unless, each_after}
-use Rattle.app_graph.specs.Spelling.{is_name as is_raw_name, is_name_byte as is_raw_byte}
 use Rattle.app_graph.specs.ValueRules.{named, is_mode, is_task, is_message, task_values, task_rules, message_values, message_rules, app_values, app_rules, mode_values, mode_rules, set_rules}
 use Rattle.app_graph.specs.Numbering.{tasks_from, messages_from, apps_from, modes_from, task_count, message_count}
 use Rattle.app_graph.specs.Validation.{KeepsRules}
 use Rattle.app_graph.proofs.Kept.{kept_parts, all_kept, unless_kept, each_kept}
-use Rattle.ttw_text.specs.Names.{is_name, is_name_byte}
+use Rattle.ttw_text.specs.Names.{is_name}
 use Rattle.proof_tree.specs.Names.{tasks_in, messages_in}
 use Rattle.proof_tree.proofs.LineRoom.{both_true}
-
--- ---- one spelling of names
-
-byte_is : (x y u v w z : Bool) → (w ≡ true → z ≡ true) → cond x y (cond u (cond v true w) false) ≡ true → ((x && y) || (u && v) || z) ≡ true
-byte_is true true u v w z f h = refl
-byte_is true false u v w z f h = absurd cc
-byte_is false y true true w z f h = refl
-byte_is false y true false w z f h = f h
-byte_is false y false v w z f h = absurd cc
-
-name_byte : (b : ℕ) → is_raw_byte b ≡ true → is_name_byte b ≡ true
-name_byte b h =
-    byte_is (leb 97 b) (leb b 122) (leb 48 b) (leb b 57) (bytes_eq (b ∷ []) (codes "_")) (eqb b 95)
-    (λ e. let s : b ∷ [] ≡ codes "_" = (bytes_eq-Decides (b ∷ []) (codes "_")).0 e in eq-eqb b 95 (ap (λ (l : List ℕ). get_or l 0 0) s))
-    h
-
-name_bytes : (bs : List ℕ) → list_all is_raw_byte bs ≡ true → list_all is_name_byte bs ≡ true
-name_bytes [] h = refl
-name_bytes (b ∷ bs) h = let w = and_parts (is_raw_byte b) (list_all is_raw_byte bs) h in both_true (is_name_byte b) (list_all is_name_byte bs) (name_byte b w.0) (name_bytes bs w.1)
 
 abbrev pub IsName : List ℕ → Type 0
 IsName name = is_name name ≡ true
 
-good_name : (name : List ℕ) → is_raw_name name ≡ true → IsName name
-good_name name h =
-    let n = length name in
-    let w = and_parts (ltb 0 n && leb n 32) (list_all is_raw_byte name) h in
-    let v = and_parts (ltb 0 n) (leb n 32) w.0 in
-    both_true (leb 1 n && leb n 32) (list_all is_name_byte name) (both_true (leb 1 n) (leb n 32) (le-leb 1 n (omega (arith, ltb-true 0 n v.0))) v.1) (name_bytes name w.1)
-
 named_good : (name : List ℕ) (taken : Bool) → ◌≡◌ {A = Rule GraphFault} (named name taken) None → IsName name
-named_good name taken e = good_name name (unless_kept (is_raw_name name) (OutOfRange KName) (kept_parts (unless (is_raw_name name) (OutOfRange KName)) (unless (not taken) (Repeated name) ∷ []) e).0)
+named_good name taken e = unless_kept (is_name name) (OutOfRange KName) (kept_parts (unless (is_name name) (OutOfRange KName)) (unless (not taken) (Repeated name) ∷ []) e).0
 
 -- ---- the names of a mode
 

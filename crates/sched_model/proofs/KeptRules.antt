@@ -14,8 +14,8 @@ use Rattle.app_graph.specs.declared.raw.RawApp.{RawApp}
 use Rattle.app_graph.specs.declared.raw.RawMode.{RawMode}
 use Rattle.app_graph.specs.declared.raw.RawSet.{RawSet}
 use Rattle.app_graph.specs.Rules.{Rule, unless, each, each_after}
-use Rattle.app_graph.specs.Spelling.{is_name}
 use Rattle.app_graph.specs.ValueRules.{within, has_some, at_most, among, is_task, listed, ends, task_rules, task_values, message_rules, message_values, has_cycle, own_rules, graph_rules, app_rules, app_values, hyper_of, runs_in, pairs_in, size_values, mode_rules, mode_values, round_rules, set_rules, value_rules}
+use Rattle.ttw_text.specs.Names.{is_name}
 use Rattle.app_graph.proofs.Kept.{kept_parts, unless_kept, each_kept, all_kept, app_tasks, app_messages, app_period}
 
 kept_each : {F A : Type 0} (rule : A → Rule F) (xs : List A) → each rule xs ≡ None → AllByRecursion (λ x. rule x ≡ None) xs
