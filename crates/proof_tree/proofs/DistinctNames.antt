@@ -21,7 +21,7 @@ use Rattle.app_graph.specs.declared.mode_set.Mode.{Mode}
 use Rattle.app_graph.specs.declared.mode_set.App.{App}
 use Rattle.app_graph.specs.declared.mode_set.Message.{Message}
 use Rattle.app_graph.specs.Rules.{unless, each_after}
-use Rattle.app_graph.specs.Spelling.{is_name}
+use Rattle.ttw_text.specs.Names.{is_name}
 use Rattle.app_graph.specs.ValueRules.{is_message as is_raw_message, message_values, message_rules, app_values, app_rules, mode_values, mode_rules, set_rules}
 use Rattle.app_graph.specs.Numbering.{messages_from, apps_from, modes_from, task_count, message_count}
 use Rattle.app_graph.specs.Validation.{KeepsRules}
