@@ -1,5 +1,5 @@
 -- What a mode set has that keeps the rules
-use Rattle.std.proofs.Common.{◌≡◌, ℕ, suc, ◌+◌, ◌*◌, ◌<◌, ◌≤◌, Bool, true, false, cond, ◌&&◌, List, [], ◌∷◌, ◌++◌, length, sum_by, Some, None, refl, sym, ◌∙◌, ap, subst, arith, ℤ, pos, ◌≤ℤ◌, ◌<ℤ◌, length-append, nat_lt, nat_le, int_le, All}
+use Rattle.std.proofs.Common.{◌≡◌, ℕ, ◌+◌, ◌<◌, ◌≤◌, Bool, true, false, List, [], ◌∷◌, ◌++◌, length, sum_by, Some, None, refl, arith, ℤ, pos, ◌≤ℤ◌, ◌<ℤ◌, length-append, nat_lt, nat_le, int_le, All}
 use Rattle.std.specs.List.{flat_map, AllByRecursion}
 use Rattle.std.proofs.lemmas.Bool.{and_parts}
 use Rattle.std.proofs.lemmas.List.Elements.{All-from_recursion}
@@ -8,7 +8,6 @@ use Rattle.std.proofs.lemmas.List.Sums.{sum_by_push, sum_by-cons, sum_by-le}
 use Rattle.std.proofs.lemmas.Int.{ints}
 use borrow.Author.Differences.{le-true}
 use borrow.Author.Tests.{ltb-true, leb-true}
-use Rattle.app_graph.specs.declared.faults.GraphFault.{GraphFault}
 use Rattle.app_graph.specs.declared.faults.GraphFault.TheVariants.{OutOfRange, TooMany}
 use Rattle.app_graph.specs.declared.keys.Key.TheVariants.{KTask, KMessage, KPeriod, KRound, KMode, KNodes, KSlots}
 use Rattle.app_graph.specs.declared.raw.RawTask.{RawTask}
@@ -115,7 +114,7 @@ apps_messages set before (app ∷ apps) e l =
     let rest = apps_messages set (before ++ app ∷ []) apps (kept_parts (each_after (app_values set) (before ++ app ∷ []) apps) [] k.1).0 (omega (arith, here, size, push)) in
     omega (arith, rest, push, sum_by-cons (λ (a : RawApp). length a.messages) app apps)
 
-mode_tasks : (set : RawSet) (earlier : List RawMode) (mode : RawMode) → mode_values set earlier mode ≡ None → task_count mode ≤ 128
+pub mode_tasks : (set : RawSet) (earlier : List RawMode) (mode : RawMode) → mode_values set earlier mode ≡ None → task_count mode ≤ 128
 mode_tasks set earlier mode e = omega (arith, apps_tasks set [] mode.apps (all_kept (mode_rules set earlier mode) e).1.1.0 (omega arith))
 
 mode_messages : (set : RawSet) (earlier : List RawMode) (mode : RawMode) → mode_values set earlier mode ≡ None → message_count mode ≤ 64

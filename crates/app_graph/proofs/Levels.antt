@@ -1,7 +1,7 @@
 -- Walks of a number of edges, and the cycles that long ones have
-use Rattle.std.proofs.Common.{◌≡◌, ℕ, zero, suc, ◌+◌, ◌-◌, ◌^◌, ◌<◌, ◌≤◌, Bool, true, false, cond, not, eqb, ◌&&◌, ◌||◌, List, [], ◌∷◌, length, get_or, map, Contains, ◌↔◌, refl, sym, ◌∙◌, ap, subst, arith, pos, ◌⊎◌, inl, inr, ⊎_elim, bit_and, bit_or}
+use Rattle.std.proofs.Common.{◌≡◌, ℕ, zero, suc, ◌+◌, ◌-◌, ◌^◌, ◌<◌, ◌≤◌, Bool, true, false, cond, not, eqb, ◌&&◌, ◌||◌, List, [], ◌∷◌, length, get_or, map, Contains, refl, sym, ◌∙◌, ap, subst, arith, pos, ⊎_elim, bit_and, bit_or}
 use Rattle.std.specs.List.{fold, list_any}
-use Rattle.std.proofs.lemmas.Bool.{and_parts, and_from, or_cases, or_left, or_right, cases_Bool}
+use Rattle.std.proofs.lemmas.Bool.{and_parts, and_from, or_cases, or_left, or_right}
 use Rattle.std.proofs.lemmas.List.Elements.{Contains-get_or}
 use Rattle.std.proofs.lemmas.List.Folds.{list_any_at}
 use Rattle.app_graph.specs.declared.cycle_rule.Link.{Link}

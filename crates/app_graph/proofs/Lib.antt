@@ -1,6 +1,8 @@
 pub mod Joined
 pub mod Kept
 pub mod Pigeons
+pub mod Ranges
+pub mod Reached
 pub mod Marks
 pub mod Levels
 pub mod Multiples

@@ -16,10 +16,10 @@ use Rattle.app_graph.specs.declared.raw.RawTask.{RawTask}
 use Rattle.app_graph.specs.declared.raw.RawApp.{RawApp}
 use Rattle.app_graph.specs.declared.raw.RawMode.{RawMode}
 use Rattle.app_graph.specs.declared.raw.RawSet.{RawSet}
-use Rattle.app_graph.specs.Numbering.{tasks_from, apps_from, app_of, modes_from, task_count, message_count, set_of}
+use Rattle.app_graph.specs.Numbering.{tasks_from, apps_from, modes_from, task_count, message_count, set_of}
 use Rattle.app_graph.specs.Queries.{Times, latest, offset_in_app}
 use Rattle.app_graph.specs.Validation.{KeepsRules}
-use Rattle.app_graph.specs.ValueRules.{within, task_values, task_rules, own_rules, app_values, app_rules, mode_values, mode_rules, value_rules, set_rules}
+use Rattle.app_graph.specs.ValueRules.{within, task_values, task_rules, own_rules, app_values, app_rules, mode_values, mode_rules, set_rules}
 use Rattle.app_graph.proofs.Kept.{all_kept, each_kept, unless_kept}
 
 between : (low high z : ℤ) → within low high z ≡ true → (low ≤ℤ z) × (z ≤ℤ high)

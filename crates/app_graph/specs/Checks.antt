@@ -1,5 +1,5 @@
 -- What a test of a rule answers
-use Rattle.std.specs.Prelude.{◌≡◌, ⊤, Option, Some, None, Result, Ok, Err}
+use Rattle.std.specs.Prelude.{◌≡◌, ⊤, Some, None, Result, Ok, Err}
 use Rattle.app_graph.specs.declared.faults.GraphFault.{GraphFault}
 use Rattle.app_graph.specs.declared.faults.GraphFault.TheVariants.{Memory}
 use Rattle.app_graph.specs.Rules.{Rule}

@@ -1,5 +1,5 @@
 -- The least common multiple of periods
-use Rattle.std.specs.Prelude.{◌≡◌, ℕ, zero, suc, ◌+◌, ◌*◌, ◌%◌, ◌<◌, Bool, if◌then◌else◌, nat_eq, List, [], ◌∷◌, fold, All}
+use Rattle.std.specs.Prelude.{ℕ, zero, suc, ◌+◌, ◌%◌, ◌<◌, if◌then◌else◌, nat_eq, List, fold, All}
 use Prim.Native.Nat.{◌∣◌}
 
 -- the first of k, k + a, k + 2 * a, .. that b divides, looked for n times

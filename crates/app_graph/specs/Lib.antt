@@ -6,5 +6,6 @@ pub mod Cycles
 pub mod Masks
 pub mod Numbering
 pub mod Queries
+pub mod Reaching
 pub mod Checks
 pub mod Validation

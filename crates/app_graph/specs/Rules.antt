@@ -1,5 +1,5 @@
 -- A rule gives a fault where it is broken. Of a list of rules the first that is broken decides.
-use Rattle.std.specs.Prelude.{ℕ, List, [], ◌∷◌, ◌++◌, Bool, Option, Some, None, if◌then◌else◌}
+use Rattle.std.specs.Prelude.{List, [], ◌∷◌, ◌++◌, Bool, Option, Some, None, if◌then◌else◌}
 
 -- none where the rule is kept
 abbrev pub Rule : Type 0 → Type 0

@@ -1,5 +1,5 @@
 -- The rules on values and graphs, over a mode file as it is written. The first that is broken decides.
-use Rattle.std.specs.Prelude.{◌≡◌, ℕ, zero, suc, ◌+◌, ◌-◌, ◌*◌, ◌/◌, ◌%◌, ℤ, pos, List, [], ◌∷◌, ◌++◌, length, Bool, true, false, not, ◌&&◌, ◌||◌, Option, Some, None, if◌then◌else◌, map, filter, fold, sum_by, count_by, nat_lt, nat_le, nat_eq, unsigned_abs, int_le, IsTrue, position, unwrap_or, slice_index_or}
+use Rattle.std.specs.Prelude.{ℕ, zero, suc, ◌+◌, ◌*◌, ◌/◌, ℤ, pos, List, [], ◌∷◌, length, Bool, true, false, not, ◌&&◌, ◌||◌, if◌then◌else◌, map, filter, sum_by, count_by, nat_lt, nat_le, unsigned_abs, int_le}
 use Rattle.std.specs.List.{flat_map, list_any, list_all}
 use Rattle.std.specs.Str.{bytes_eq}
 use Rattle.app_graph.specs.declared.keys.Key.{Key}

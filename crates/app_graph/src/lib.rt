@@ -15,6 +15,7 @@ mod names;
 mod numbering;
 mod queries;
 mod raw;
+mod reaching;
 mod size_rules;
 mod task_rules;
 #[cfg(test)]
@@ -28,4 +29,5 @@ pub use mode_set::{App, Message, Mode, ModeSet, Task};
 pub use names::Name;
 pub use queries::{greatest_offset, is_first, is_last};
 pub use raw::{RawApp, RawMessage, RawMode, RawSet, RawTask};
+pub use reaching::reaches;
 pub use validation::validate;

@@ -2,7 +2,7 @@
 
 use crate::{
     GraphFault, ListOf, ModeSet, Name, RawApp, RawMessage, RawMode, RawSet, RawTask,
-    greatest_offset, is_first, is_last, validate,
+    greatest_offset, is_first, is_last, reaches, validate,
 };
 use std::alloc::{AllocError, Global};
 use std::test::Fail;
@@ -779,6 +779,84 @@ fn limits(rt: HostRuntime) -> Result<(), Fail> {
             kind_of(&answer) == *kind && word_of(&answer) == word.as_bytes(),
             "{kind} {word}"
         );
+    }
+    Ok(())
+}
+
+/// A mode with `count` tasks and a chain of messages along the listed ones, the last message first.
+fn chain_mode(
+    alloc: Global,
+    mode: &str,
+    count: u32,
+    chain: &[(&str, &str)],
+) -> Result<RawMode, AllocError> {
+    let crowd = Crowd {
+        nodes: 2,
+        tasks: count,
+        messages: 0,
+        from: 0,
+        to: 0,
+    };
+    let mut messages = Vec::new(alloc);
+    for (i, (from, to)) in chain.iter().enumerate() {
+        messages.push(RawMessage {
+            name: name(alloc, format!(in alloc; "m{i}")?.as_str())?,
+            from: names(alloc, &[from])?,
+            to: names(alloc, &[to])?,
+        })?;
+    }
+    let app = RawApp {
+        name: name(alloc, "a")?,
+        period: 1000,
+        deadline: 1000,
+        tasks: crowd_tasks(alloc, crowd)?,
+        messages: ListOf::from_vec(messages),
+    };
+    Ok(RawMode {
+        name: name(alloc, mode)?,
+        apps: one(alloc, app)?,
+    })
+}
+
+/// The first mode has the tasks 0 to 29, the second one 30 to 59.
+#[test]
+fn walks(rt: HostRuntime) -> Result<(), Fail> {
+    let mut modes = Vec::new(rt.alloc());
+    let back = [("t28", "t29"), ("t2", "t28"), ("t1", "t2"), ("t0", "t1")];
+    modes.push(chain_mode(rt.alloc(), "one", 30, &back)?)?;
+    modes.push(chain_mode(rt.alloc(), "two", 30, &[("t29", "t3"), ("t3", "t4")])?)?;
+    let raw = RawSet {
+        slots: 1,
+        round: 10,
+        gap: 100,
+        host: name(rt.alloc(), "n0")?,
+        nodes: names(rt.alloc(), &["n0", "n1"])?,
+        modes: ListOf::from_vec(modes),
+    };
+    let Ok(set) = validate(rt.alloc(), &raw) else {
+        return Err("refused".into());
+    };
+    let rows = [
+        (0, 0, true),
+        (0, 1, true),
+        (0, 29, true),
+        (1, 28, true),
+        (28, 29, true),
+        (29, 28, false),
+        (2, 1, false),
+        (0, 3, false),
+        (0, 31, false),
+        (30, 34, false),
+        (59, 33, true),
+        (59, 34, true),
+        (34, 59, false),
+        (59, 59, true),
+        (29, 33, false),
+        (60, 0, false),
+        (60, 60, true),
+    ];
+    for (from, to, reached) in rows {
+        assert!(rt; reaches(&set, from, to) == reached, "{from} to {to}");
     }
     Ok(())
 }

@@ -1,4 +1,4 @@
-use Rattle.std.proofs.Common.{◌≡◌, ◌+◌, ◌∙◌, suc, length, ap, arith}
+use Rattle.std.proofs.Common.{◌+◌, ◌∙◌, suc, length, ap, arith}
 use Rattle.app_graph.proofs.Levels.{round_first, round_more, round_last}
 use Rattle.app_graph.proofs.cycle_rule.has_cycle.Goals as goal
 

@@ -1,5 +1,4 @@
 use Rattle.std.proofs.Common.{take, refl, arith}
-use Rattle.std.specs.List.{flat_map}
 use Rattle.app_graph.specs.ValueRules.{app_values}
 use Rattle.app_graph.proofs.Joined.{length_flat_more}
 use Rattle.app_graph.proofs.Kept.{app_tasks}

@@ -1,4 +1,4 @@
-use Rattle.std.proofs.Common.{◌≡◌, ◌∙◌, ℤ, Option, Some, List, sym, ap, rules, eq-eqb, w64}
+use Rattle.std.proofs.Common.{◌≡◌, ◌∙◌, ℤ, Some, List, sym, ap, rules, eq-eqb, w64}
 use Rattle.std.proofs.lemmas.Int.{to_z-of_z}
 use mir.Val.{SFits}
 use Rattle.app_graph.specs.declared.mode_set.Task.{Task}

@@ -1,4 +1,4 @@
-use Rattle.std.proofs.Common.{◌≡◌, ◌∙◌, List, map, sym, ap, arith, rules, unsigned_abs, w64}
+use Rattle.std.proofs.Common.{◌∙◌, List, map, sym, ap, arith, rules, unsigned_abs, w64}
 use Rattle.std.specs.List.{fold}
 use Rattle.std.proofs.lemmas.Int.{to_z-of_z}
 use mir.Val.{SFits}

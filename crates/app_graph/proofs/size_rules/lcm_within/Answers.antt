@@ -1,4 +1,4 @@
-use Rattle.std.proofs.Common.{◌<◌, ◌≤◌, ◌≡◌, arith, rules, refl, sym, unsigned_abs, w64}
+use Rattle.std.proofs.Common.{◌<◌, arith, rules, refl, sym, unsigned_abs, w64}
 use Rattle.std.proofs.lemmas.Int.{ints, to_z-of_z}
 use mir.Val.{SFits}
 use Rattle.tick_num.proofs.Multiples.{same_lcm}
