@@ -1,5 +1,5 @@
 -- What files and sinks in memory are.
-use Rattle.std.specs.Prelude.{ℕ, ◌-◌, List, [], ◌∷◌, length, map, min, if◌then◌else◌, String, Vec, string_bytes}
+use Rattle.std.specs.Prelude.{ℕ, Bool, ◌-◌, List, [], ◌∷◌, length, map, min, if◌then◌else◌, String, Vec, string_bytes}
 use Rattle.std.specs.Str.{bytes_eq}
 use Rattle.std.specs.declared.alloc.Global.{Global}
 use Rattle.ttw_io.specs.Outside.{Told, file}
@@ -20,7 +20,8 @@ pub record FilesInMemory : Type 0 where
   pub made : ℕ
   pub faults : ℕ
 
--- the bytes held, how many there is room for, how many a call takes, and the counts of calls as for files
+-- the bytes held, how many there is room for, how many a call takes, the counts of calls as for files, how often it was
+-- flushed, and whether it was written to after the last flush
 pub record SinkInMemory : Type 0 where
   pub bytes : List ℕ
   pub room : ℕ
@@ -28,6 +29,8 @@ pub record SinkInMemory : Type 0 where
   pub fail : List ℕ
   pub made : ℕ
   pub faults : ℕ
+  pub flushes : ℕ
+  pub unflushed : Bool
 
 -- how many bytes a sink has room for beside those that it holds
 abbrev pub room_left : SinkInMemory → ℕ

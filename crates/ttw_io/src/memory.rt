@@ -1,10 +1,10 @@
 //! Files and sinks in memory, for tests and for calls whose text is dropped.
 
-ghost use Rattle.std.specs.Prelude.{◌≡◌, ℕ, ◌≤◌, ◌<◌, ◌↔◌, ◌⊎◌, ◌++◌, [], length, take, Contains, Some, None, IfOk, IfSome, IfNone, IsErr, OnErr, OnOk, vec_capacity, vec_len};
+ghost use Rattle.std.specs.Prelude.{◌≡◌, ℕ, ◌≤◌, ◌<◌, ◌↔◌, ◌⊎◌, ◌++◌, [], length, take, Contains, Some, None, true, false, IfOk, IfSome, IfNone, IsErr, OnErr, OnOk, vec_capacity, vec_len};
 ghost use Rattle.ttw_io.specs.Outside.{Told, missing, file, IsRead, ReadsAt, one_more};
 ghost use Rattle.ttw_io.specs.Memory.{FilesInMemory, SinkInMemory, named, look_up, room_left, taken};
 
-use crate::outside::{Failed, Faults, Files, Sink};
+use crate::outside::{Failed, Faults, Files, Flushes, Sink};
 use std::alloc::{AllocError, Global};
 use std::marker::Model;
 
@@ -160,6 +160,7 @@ pub struct MemSink {
     room: usize,
     piece: usize,
     calls: Calls,
+    flushes: Flushes,
 }
 
 impl Model for MemSink {
@@ -172,6 +173,8 @@ impl Model for MemSink {
       fail = m.calls.fail.items;
       made = m.calls.made;
       faults = m.calls.faults;
+      flushes = m.flushes.calls;
+      unflushed = m.flushes.unflushed;
     } };
 
     ghost invariant = { λ m. (1 ≤ m.piece) × (vec_len m.bytes ≤ m.room) × (m.room ≤ vec_capacity m.bytes) };
@@ -194,6 +197,8 @@ impl MemSink {
           fail = fail.items;
           made = 0;
           faults = 0;
+          flushes = 0;
+          unflushed = false;
         }) }
     {
         Ok(MemSink {
@@ -201,6 +206,7 @@ impl MemSink {
             room,
             piece,
             calls: Calls::none(fail),
+            flushes: Flushes::none(),
         })
     }
 
@@ -217,6 +223,10 @@ impl Sink for MemSink {
 
     ghost faults = { λ m. m.faults };
 
+    ghost flushes = { λ m. m.flushes };
+
+    ghost unflushed = { λ m. m.unflushed };
+
     fn write(&mut self, piece: &[u8]) -> Result<usize, Failed>
         ensures fails { IsErr result
             ↔ (Contains self.old.fail (one_more self.old.made) ⊎ ((room_left self.old ≡ 0) × (0 < length piece.now))) }
@@ -225,11 +235,17 @@ impl Sink for MemSink {
         ensures ok { IfOk result (λ n. self.new ≡ record self.old {
           bytes = self.old.bytes ++ take n piece.now;
           made = one_more self.old.made;
+          unflushed = true;
         }) }
         ensures err { OnErr result
-            (self.new ≡ record self.old { made = one_more self.old.made; faults = one_more self.old.faults }) }
+            (self.new ≡ record self.old {
+              made = one_more self.old.made;
+              faults = one_more self.old.faults;
+              unflushed = true;
+            }) }
         ensures counted { self.old.faults ≤ self.new.faults }
     {
+        self.flushes.write();
         self.calls.begin()?;
         let room = self.room - self.bytes.len();
         if room == 0 && !piece.is_empty() {
@@ -242,25 +258,40 @@ impl Sink for MemSink {
 
     fn flush(&mut self) -> Result<(), Failed>
         ensures fails { IsErr result ↔ Contains self.old.fail (one_more self.old.made) }
-        ensures ok { OnOk result (self.new ≡ record self.old { made = one_more self.old.made }) }
-        ensures err { OnErr result
-            (self.new ≡ record self.old { made = one_more self.old.made; faults = one_more self.old.faults }) }
+        ensures ok { OnOk result (self.new ≡ record self.old {
+          made = one_more self.old.made;
+          flushes = one_more self.old.flushes;
+          unflushed = false;
+        }) }
+        ensures err { OnErr result (self.new ≡ record self.old {
+          made = one_more self.old.made;
+          faults = one_more self.old.faults;
+          flushes = one_more self.old.flushes;
+          unflushed = false;
+        }) }
         ensures counted { self.old.faults ≤ self.new.faults }
     {
+        self.flushes.flush();
         self.calls.begin()
     }
 }
 
 /// A sink that drops what it is given, and never fails.
 #[derive(Clone, Copy, Debug)]
-pub struct SureSink;
+pub struct SureSink {
+    flushes: Flushes,
+}
 
 impl SureSink {
     /// A sink that was given nothing yet.
     pub fn make() -> Self
-        ensures { ⟦<SureSink as Sink>⟧.faults result ≡ 0 }
+        ensures count { ⟦<SureSink as Sink>⟧.faults result ≡ 0 }
+        ensures flushes { ⟦<SureSink as Sink>⟧.flushes result ≡ 0 }
+        ensures unflushed { ⟦<SureSink as Sink>⟧.unflushed result ≡ false }
     {
-        SureSink
+        SureSink {
+            flushes: Flushes::none(),
+        }
     }
 }
 
@@ -269,11 +300,17 @@ impl Sink for SureSink {
 
     ghost faults = { λ _. 0 };
 
+    ghost flushes = { λ s. s.flushes.calls };
+
+    ghost unflushed = { λ s. s.flushes.unflushed };
+
     fn write(&mut self, piece: &[u8]) -> Result<usize, Failed> {
+        self.flushes.write();
         Ok(piece.len())
     }
 
     fn flush(&mut self) -> Result<(), Failed> {
+        self.flushes.flush();
         Ok(())
     }
 }

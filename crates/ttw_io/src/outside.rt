@@ -3,7 +3,7 @@
 //! Each counts its faults. The count begins at 0, never falls, and rises with each failure until it
 //! stands at the greatest `u64`. So a caller whose count did not rise met no failure.
 
-ghost use Rattle.std.specs.Prelude.{◌≡◌, ℕ, ◌≤◌, ◌<◌, List, length, take, Option, IfOk, OnErr};
+ghost use Rattle.std.specs.Prelude.{◌≡◌, ℕ, ◌≤◌, ◌<◌, List, length, take, Bool, true, false, Option, IfOk, OnErr};
 ghost use Rattle.std.specs.Io.KnownBytes.{append_known};
 ghost use Rattle.ttw_io.specs.Outside.{Told, Rose, ReadsAt, one_more};
 
@@ -42,6 +42,39 @@ impl Faults {
     }
 }
 
+/// A count of flushes, and whether something was written after the last one.
+#[derive(Clone, Copy, Debug, Drop)]
+pub(crate) struct Flushes {
+    pub(crate) calls: u64,
+    pub(crate) unflushed: bool,
+}
+
+impl Flushes {
+    pub(crate) fn none() -> Self
+        ensures { result ≡ record { calls = 0; unflushed = false } }
+    {
+        Flushes {
+            calls: 0,
+            unflushed: false,
+        }
+    }
+
+    /// Keeps in mind that something may have been written.
+    pub(crate) fn write(&mut self)
+        ensures { self.new ≡ record self.old { unflushed = true } }
+    {
+        self.unflushed = true;
+    }
+
+    /// Counts one more.
+    pub(crate) fn flush(&mut self)
+        ensures { self.new ≡ record { calls = one_more self.old.calls; unflushed = false } }
+    {
+        self.calls = self.calls.saturating_add(1);
+        self.unflushed = false;
+    }
+}
+
 /// Files that are read by name.
 pub trait Files {
     // What is told of the file of each name.
@@ -70,6 +103,12 @@ pub trait Sink {
     // How many faults were counted.
     ghost faults: { Self → ℕ };
 
+    // How often it was flushed. The count stands still at the greatest `u64`.
+    ghost flushes: { Self → ℕ };
+
+    // Whether `write` was called after the last flush.
+    ghost unflushed: { Self → Bool };
+
     /// Adds a prefix of the piece, and gives its length: at least 1 for a non-empty piece.
     ///
     /// A failure adds nothing.
@@ -79,11 +118,15 @@ pub trait Sink {
         ensures added { IfOk result (λ n. held self.new ≡ append_known (held self.old) (take n piece.now)) }
         ensures kept { OnErr result (held self.new ≡ held self.old) }
         ensures counted { faults self.old ≤ faults self.new }
-        ensures failed { OnErr result (Rose (faults self.old) (faults self.new)) };
+        ensures failed { OnErr result (Rose (faults self.old) (faults self.new)) }
+        ensures same_flushes { flushes self.new ≡ flushes self.old }
+        ensures unflushed { unflushed self.new ≡ true };
 
-    /// Hands on what was written so far, and adds nothing.
+    /// Hands on what was written so far, and adds nothing. A call that fails is counted as a flush too.
     fn flush(&mut self) -> Result<(), Failed>
         ensures kept { held self.new ≡ held self.old }
         ensures counted { faults self.old ≤ faults self.new }
-        ensures failed { OnErr result (Rose (faults self.old) (faults self.new)) };
+        ensures failed { OnErr result (Rose (faults self.old) (faults self.new)) }
+        ensures one_flush { flushes self.new ≡ one_more (flushes self.old) }
+        ensures flushed { unflushed self.new ≡ false };
 }

@@ -1,9 +1,9 @@
 //! The files of the machine, and its standard output.
 
-ghost use Rattle.std.specs.Prelude.{◌≡◌, ◌≤◌, length, None, IfOk};
+ghost use Rattle.std.specs.Prelude.{◌≡◌, ◌≤◌, length, false, None, IfOk};
 ghost use Rattle.ttw_io.specs.Outside.{untold};
 
-use crate::outside::{Failed, Faults, Files, Sink};
+use crate::outside::{Failed, Faults, Files, Flushes, Sink};
 use std::alloc::{AllocError, Global};
 use std::io::{ErrorKind, Read, Seek, SeekFrom, Write};
 use std::{fs, io, rt};
@@ -103,16 +103,20 @@ impl<R: rt::Files + Drop> Files for DiskFiles<R> {
 pub struct StdSink<R> {
     rt: R,
     faults: Faults,
+    flushes: Flushes,
 }
 
 impl<R: Print> StdSink<R> {
     /// Writes to the runtime's standard output.
     pub fn make(rt: R) -> Self
-        ensures { ⟦<StdSink<R> as Sink>⟧.faults result ≡ 0 }
+        ensures count { ⟦<StdSink<R> as Sink>⟧.faults result ≡ 0 }
+        ensures flushes { ⟦<StdSink<R> as Sink>⟧.flushes result ≡ 0 }
+        ensures unflushed { ⟦<StdSink<R> as Sink>⟧.unflushed result ≡ false }
     {
         StdSink {
             rt,
             faults: Faults::none(),
+            flushes: Flushes::none(),
         }
     }
 }
@@ -122,7 +126,12 @@ impl<R: Print> Sink for StdSink<R> {
 
     ghost faults = { λ s. s.faults };
 
+    ghost flushes = { λ s. s.flushes.calls };
+
+    ghost unflushed = { λ s. s.flushes.unflushed };
+
     fn write(&mut self, piece: &[u8]) -> Result<usize, Failed> {
+        self.flushes.write();
         match self.rt.write_some(piece) {
             Ok(n) if n > 0 || piece.is_empty() => Ok(n),
             _ => Err(self.faults.add()),
@@ -130,6 +139,7 @@ impl<R: Print> Sink for StdSink<R> {
     }
 
     fn flush(&mut self) -> Result<(), Failed> {
+        self.flushes.flush();
         if io::writer(&self.rt).flush().is_err() {
             return Err(self.faults.add());
         }

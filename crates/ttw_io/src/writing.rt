@@ -11,6 +11,7 @@ pub fn write_all<S: Sink>(out: &mut S, text: &[u8]) -> Result<(), Failed>
     ensures ok { OnOk result (S.held out.new ≡ append_known (S.held out.old) text.now) }
     ensures err { OnErr result (AddsFront (S.held out.old) (S.held out.new) text.now) }
     ensures counted { S.faults out.old ≤ S.faults out.new }
+    ensures same_flushes { S.flushes out.new ≡ S.flushes out.old }
     ensures failed { OnErr result (Rose (S.faults out.old) (S.faults out.new)) }
 {
     let mut done = 0;

@@ -7,7 +7,7 @@ use Rattle.ttw_io.specs.Outside.{Rose, Told, untold, missing, file, OfFile, Adds
 use Rattle.ttw_program.specs.declared.status.Status.{Status}
 use Rattle.ttw_program.specs.declared.status.Status.TheVariants.{Done, NoSchedule, Usage, ModeFile, ReadFault, WriteFault}
 use Rattle.ttw_program.specs.FaultLines.{read_fault_line}
-use Rattle.ttw_program.specs.Endings.{Counts, Ends, Finishes, AddsDue, ReadFaultDue}
+use Rattle.ttw_program.specs.Endings.{SinkCounts, Counts, FlushedOnce, Ends, Finishes, AddsDue, ReadFaultDue}
 use Rattle.ttw_program.specs.Commands.{Command, plan, none}
 use Rattle.ttw_program.specs.Due.{OfCommand, OfSet, PlanDue, plan_status}
 use Rattle.proof_tree.specs.declared.tree.ModePart.{ModePart}
@@ -41,20 +41,22 @@ pub due_answered : (command : Command) (told : List ℕ → Told) (s : Status) (
 due_answered (plan name budget) told s t d = of_file (told name) s t d
 due_answered none told s t d = answered s Usage d.0 usage
 
-adds : (Due : Status → List ℕ → Type 0) (counts : Counts) (old new : Option (List ℕ)) (s : Status) (t : List ℕ) → IsAnswered s → Due s t → new ≡ append_known old t → Ends Due counts old new s
-adds Due counts old new s t done d e = (t, d, e)
-adds Due counts old new s t no_schedule d e = (t, d, e)
-adds Due counts old new s t usage d e = (t, d, e)
-adds Due counts old new s t mode_file d e = (t, d, e)
+adds : (Due : Status → List ℕ → Type 0) (counts : Counts) (old new : Option (List ℕ)) (s : Status) (t : List ℕ) → IsAnswered s → Due s t → FlushedOnce counts.sink → new ≡ append_known old t → Ends Due counts old new s
+adds Due counts old new s t done d f e = (f, (t, d, e))
+adds Due counts old new s t no_schedule d f e = (f, (t, d, e))
+adds Due counts old new s t usage d f e = (f, (t, d, e))
+adds Due counts old new s t mode_file d f e = (f, (t, d, e))
 
 -- an answer that is due was written, or a prefix of it
 pub ends_answer : (Due : Status → List ℕ → Type 0) (counts : Counts) (old new : Option (List ℕ)) (s result : Status) (t : List ℕ) → IsAnswered s → Due s t →
-    Finishes s t counts.writes_before counts.writes_now old new result → Ends Due counts old new result
-ends_answer Due counts old new s result t k d (inl (er, en)) = subst (Ends Due counts old new) (sym er) (adds Due counts old new s t k d en)
-ends_answer Due counts old new s result t k d (inr (er, rose, front)) = subst (Ends Due counts old new) (sym er) (rose, inr (s, t, inl d, front))
+    Finishes s t counts.sink old new result → Ends Due counts old new result
+ends_answer Due counts old new s result t k d (inl (er, f, en)) = subst (Ends Due counts old new) (sym er) (adds Due counts old new s t k d f en)
+ends_answer Due counts old new s result t k d (inr (er, rose, inl (kept, front))) = subst (Ends Due counts old new) (sym er) (rose, inl (kept, inr (s, t, inl d, front)))
+ends_answer Due counts old new s result t k d (inr (er, rose, inr (f, en))) = subst (Ends Due counts old new) (sym er) (rose, inr (f, (s, (t, inl d, en))))
 
 -- the line of a read fault was written, or a prefix of it
 pub ends_read : (Due : Status → List ℕ → Type 0) (counts : Counts) (old new : Option (List ℕ)) (result : Status) → Rose counts.reads_before counts.reads_now →
-    Finishes ReadFault read_fault_line counts.writes_before counts.writes_now old new result → Ends Due counts old new result
-ends_read Due counts old new result rose (inl (er, en)) = subst (Ends Due counts old new) (sym er) (read_fault_line, (rose, refl, refl), en)
-ends_read Due counts old new result rose (inr (er, wrote, front)) = subst (Ends Due counts old new) (sym er) (wrote, inr (ReadFault, read_fault_line, inr (rose, refl, refl), front))
+    Finishes ReadFault read_fault_line counts.sink old new result → Ends Due counts old new result
+ends_read Due counts old new result rose (inl (er, f, en)) = subst (Ends Due counts old new) (sym er) (f, (read_fault_line, (rose, refl, refl), en))
+ends_read Due counts old new result rose (inr (er, wrote, inl (kept, front))) = subst (Ends Due counts old new) (sym er) (wrote, inl (kept, inr (ReadFault, read_fault_line, inr (rose, refl, refl), front)))
+ends_read Due counts old new result rose (inr (er, wrote, inr (f, en))) = subst (Ends Due counts old new) (sym er) (wrote, inr (f, (ReadFault, (read_fault_line, inr (rose, refl, refl), en))))

@@ -88,7 +88,7 @@ fn answer_words<F: Files>(alloc: Global, words: &[&str], files: &mut F) -> Resul
 ///
 /// `docs/COMMANDS.md` lists the commands, their texts, the statuses and when each comes.
 pub fn run<F: Files, S: Sink>(alloc: Global, words: &[&str], files: &mut F, out: &mut S) -> Status
-    ensures end { Ends (Due (map (λ w. w.now) words.now) (F.contents files.old)) (record { reads_before = F.faults files.old; reads_now = F.faults files.new; writes_before = S.faults out.old; writes_now = S.faults out.new }) (S.held out.old) (S.held out.new) result }
+    ensures end { Ends (Due (map (λ w. w.now) words.now) (F.contents files.old)) (record { reads_before = F.faults files.old; reads_now = F.faults files.new; sink = record { faults_before = S.faults out.old; faults_now = S.faults out.new; flushes_before = S.flushes out.old; flushes_now = S.flushes out.new; unflushed = S.unflushed out.new } }) (S.held out.old) (S.held out.new) result }
     ensures reads { F.faults files.old ≤ F.faults files.new }
     ensures writes { S.faults out.old ≤ S.faults out.new }
 {

@@ -87,6 +87,22 @@ fn failing_sink_and_files(rt: HostRuntime) -> Result<(), Fail> {
     Ok(())
 }
 
+/// The plan has 81 bytes, which are written in eleven calls. The flush is the twelfth.
+#[test]
+fn failing_flush(rt: HostRuntime) -> Result<(), Fail> {
+    let words = ["plan", "blink.toml", "10"];
+    let (status, text) = answer(rt.alloc(), &words, BLINK, &[], &[11])?;
+    assert!(rt; status == Status::WriteFault);
+    assert_eq!(rt; text.len(), 80);
+    let (status, text) = answer(rt.alloc(), &words, BLINK, &[], &[12])?;
+    assert!(rt; status == Status::WriteFault);
+    assert_eq!(rt; text.len(), 81);
+    let (status, text) = answer(rt.alloc(), &words, BLINK, &[], &[13])?;
+    assert!(rt; status == Status::Done);
+    assert_eq!(rt; text.len(), 81);
+    Ok(())
+}
+
 #[test]
 fn no_round_fits(rt: HostRuntime) -> Result<(), Fail> {
     let text = BLINK.replace(rt.alloc(), "round = 10", "round = 20")?;

@@ -1,4 +1,4 @@
-use Rattle.std.proofs.Common.{◌≡◌, ◌<◌, ◌≤◌, ◌+◌, ◌-◌, ◌++◌, List, ℕ, length, take, drop, arith, ap, ◌∙◌, rules, length-append}
+use Rattle.std.proofs.Common.{◌≡◌, ◌≤◌, ◌+◌, ◌-◌, ◌++◌, List, ℕ, length, take, drop, arith, ap, ◌∙◌, rules, length-append}
 use Rattle.std.proofs.lemmas.List.{length-take, take-append-le}
 use Rattle.ttw_io.specs.Outside.{Told, ReadsAt}
 use Rattle.ttw_io.proofs.ReadingLemmas.{Begins-append}

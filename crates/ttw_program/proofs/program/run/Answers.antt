@@ -13,9 +13,9 @@ returns-in-Ok-clause-end g c =
     let told = g.F.Files.contents c.args.files.now in
     let old = g.S.Sink.held c.args.out.now in
     let new = g.S.Sink.held c.finish.new.out in
-    let counts : Counts = record { reads_before = g.F.Files.faults c.args.files.now; reads_now = g.F.Files.faults c.answer_words.new.files; writes_before = g.S.Sink.faults c.args.out.now; writes_now = g.S.Sink.faults c.finish.new.out } in
+    let counts : Counts = record { reads_before = g.F.Files.faults c.args.files.now; reads_now = g.F.Files.faults c.answer_words.new.files; sink = record { faults_before = g.S.Sink.faults c.args.out.now; faults_now = g.S.Sink.faults c.finish.new.out; flushes_before = g.S.Sink.flushes c.args.out.now; flushes_now = g.S.Sink.flushes c.finish.new.out; unflushed = g.S.Sink.unflushed c.finish.new.out } } in
     let d = c.in-Ok.ensures.due in
-    let f = subst (λ (text : List ℕ). Finishes c.in-Ok.answer.status text counts.writes_before counts.writes_now old new c.finish.result) c.bytes.ensures c.finish.ensures.end in
+    let f = subst (λ (text : List ℕ). Finishes c.in-Ok.answer.status text counts.sink old new c.finish.result) c.bytes.ensures c.finish.ensures.end in
     ends_answer (Due words told) counts old new c.in-Ok.answer.status c.finish.result c.in-Ok.answer.text
     (due_answered (command words) told c.in-Ok.answer.status c.in-Ok.answer.text d) d f
 
@@ -25,7 +25,7 @@ returns-in-Err-Read-clause-end g c =
     let told = g.F.Files.contents c.args.files.now in
     let old = g.S.Sink.held c.args.out.now in
     let new = g.S.Sink.held c.finish-in-Err-Read.new.out in
-    let counts : Counts = record { reads_before = g.F.Files.faults c.args.files.now; reads_now = g.F.Files.faults c.answer_words.new.files; writes_before = g.S.Sink.faults c.args.out.now; writes_now = g.S.Sink.faults c.finish-in-Err-Read.new.out } in
+    let counts : Counts = record { reads_before = g.F.Files.faults c.args.files.now; reads_now = g.F.Files.faults c.answer_words.new.files; sink = record { faults_before = g.S.Sink.faults c.args.out.now; faults_now = g.S.Sink.faults c.finish-in-Err-Read.new.out; flushes_before = g.S.Sink.flushes c.args.out.now; flushes_now = g.S.Sink.flushes c.finish-in-Err-Read.new.out; unflushed = g.S.Sink.unflushed c.finish-in-Err-Read.new.out } } in
     let rose : Rose counts.reads_before counts.reads_now = c.in-Err-Read.ensures.read (ap (λ e. Err e) c.in-Err-Read.field-0-is) in
-    let f = subst (λ (text : List ℕ). Finishes ReadFault text counts.writes_before counts.writes_now old new c.finish-in-Err-Read.result) c.as_bytes.ensures.value c.finish-in-Err-Read.ensures.end in
+    let f = subst (λ (text : List ℕ). Finishes ReadFault text counts.sink old new c.finish-in-Err-Read.result) c.as_bytes.ensures.value c.finish-in-Err-Read.ensures.end in
     ends_read (Due words told) counts old new c.finish-in-Err-Read.result rose f
