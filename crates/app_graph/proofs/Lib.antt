@@ -1,3 +1,4 @@
+pub mod FirstPlaces
 pub mod Joined
 pub mod Kept
 pub mod Pigeons

@@ -5,6 +5,7 @@ pub mod ValueRules
 pub mod Cycles
 pub mod Masks
 pub mod Numbering
+pub mod Places
 pub mod Queries
 pub mod Reaching
 pub mod Checks

@@ -10,6 +10,7 @@ mod lists;
 mod message_rules;
 mod mode_rules;
 mod mode_set;
+mod name_places;
 mod name_rules;
 mod names;
 mod numbering;

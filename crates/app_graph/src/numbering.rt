@@ -1,53 +1,14 @@
 //! The mode set of a file that keeps the rules: names become numbers.
 
-ghost use Rattle.std.specs.Prelude.{◌≡◌, ◌+◌, ◌^◌, ◌<◌, ◌≤◌, IfOk, IfSome, length, position, pos, sum_by, ◌≤ℤ◌};
-ghost use Rattle.std.specs.Str.{bytes_eq};
-ghost use Rattle.app_graph.specs.Numbering.{app_of, apps_from, message_count, message_of, messages_from, mode_of, modes_from, node_place, numbers_of, set_of, task_count, task_of, task_place, tasks_from};
+ghost use Rattle.std.specs.Prelude.{◌≡◌, ◌+◌, ◌^◌, ◌<◌, ◌≤◌, IfOk, length, pos, sum_by, ◌≤ℤ◌};
+ghost use Rattle.app_graph.specs.Numbering.{app_of, apps_from, message_count, message_of, messages_from, mode_of, modes_from, numbers_of, set_of, task_count, task_of, tasks_from};
 
 use crate::lists::ListOf;
 use crate::mode_set::{App, Message, Mode, ModeSet, Task};
-use crate::names::{Name, is_same};
+use crate::name_places::{NodePlaces, TaskPlaces};
+use crate::names::Name;
 use crate::raw::{RawApp, RawMessage, RawMode, RawSet, RawTask};
 use std::alloc::{AllocError, Global};
-
-/// The place of the first node with the name.
-fn node_position(nodes: &[Name], name: &Name) -> Option<usize>
-    ensures place { result ≡ position (bytes_eq name.now) nodes.now }
-    ensures within { IfSome result (λ i. i < length nodes.now) }
-{
-    nodes.iter().position(|node| is_same(name, node))
-}
-
-/// The same as a number, which is 0 where there is none.
-fn find_node(nodes: &[Name], name: &Name) -> u32
-    requires { length nodes.now < 2 ^ 31 }
-    ensures { result ≡ node_place nodes.now name.now }
-{
-    match node_position(nodes, name) {
-        Some(place) => place as u32,
-        None => 0,
-    }
-}
-
-/// The place of the first task with the name.
-fn task_position(tasks: &[RawTask], name: &Name) -> Option<usize>
-    ensures place { result ≡ position (λ t. bytes_eq name.now t.name) tasks.now }
-    ensures within { IfSome result (λ i. i < length tasks.now) }
-{
-    tasks.iter().position(|task| is_same(name, &task.name))
-}
-
-/// The same as a number, which is 0 where there is none.
-fn find_task(tasks: &[RawTask], name: &Name) -> u32
-    requires { length tasks.now < 2 ^ 31 }
-    ensures place { result ≡ task_place tasks.now name.now }
-    ensures small { result < 2 ^ 31 }
-{
-    match task_position(tasks, name) {
-        Some(place) => place as u32,
-        None => 0,
-    }
-}
 
 /// The names once more.
 fn copy_names(alloc: Global, names: &[Name]) -> Result<ListOf<Name>, AllocError>
@@ -63,16 +24,15 @@ fn copy_names(alloc: Global, names: &[Name]) -> Result<ListOf<Name>, AllocError>
 /// The task with a number.
 fn number_task(
     alloc: Global,
-    nodes: &[Name],
+    nodes: &NodePlaces<'_>,
     number: u32,
     task: &RawTask,
 ) -> Result<Task, AllocError>
-    requires { length nodes.now < 2 ^ 31 }
     ensures { IfOk result (λ t. t ≡ task_of nodes.now number task.now) }
 {
     Ok(Task {
         name: task.name.copy(alloc)?,
-        node: find_node(nodes, &task.node),
+        node: nodes.find(&task.node),
         wcet: task.wcet,
         body: task.body.copy(alloc)?,
         number,
@@ -82,11 +42,10 @@ fn number_task(
 /// The tasks with the numbers from `first` on.
 fn number_tasks(
     alloc: Global,
-    nodes: &[Name],
+    nodes: &NodePlaces<'_>,
     first: u32,
     tasks: &[RawTask],
 ) -> Result<ListOf<Task>, AllocError>
-    requires nodes { length nodes.now < 2 ^ 31 }
     requires tasks { first + length tasks.now < 2 ^ 31 }
     ensures { IfOk result (λ v. v ≡ tasks_from nodes.now first tasks.now) }
 {
@@ -101,7 +60,7 @@ fn number_tasks(
 fn numbers(
     alloc: Global,
     first: u32,
-    tasks: &[RawTask],
+    tasks: &TaskPlaces<'_>,
     names: &[Name],
 ) -> Result<ListOf<u32>, AllocError>
     requires { first + length tasks.now < 2 ^ 31 }
@@ -110,7 +69,7 @@ fn numbers(
     Ok(ListOf::from_vec(
         names
             .iter()
-            .map(|name| first + find_task(tasks, name))
+            .map(|name| first + tasks.find(name))
             .collect(alloc)?,
     ))
 }
@@ -119,7 +78,7 @@ fn numbers(
 fn number_message(
     alloc: Global,
     first: u32,
-    tasks: &[RawTask],
+    tasks: &TaskPlaces<'_>,
     number: u32,
     message: &RawMessage,
 ) -> Result<Message, AllocError>
@@ -134,19 +93,18 @@ fn number_message(
     })
 }
 
-/// The messages of the application with the numbers from `number` on; its first task has the number `first`.
+/// The messages with the numbers from `number` on; the first of the tasks has the number `first`.
 fn number_messages(
     alloc: Global,
     first: u32,
+    tasks: &TaskPlaces<'_>,
     number: u32,
-    app: &RawApp,
+    messages: &[RawMessage],
 ) -> Result<ListOf<Message>, AllocError>
-    requires tasks { first + length app.now.tasks < 2 ^ 31 }
-    requires messages { number + length app.now.messages < 2 ^ 31 }
-    ensures { IfOk result (λ v. v ≡ messages_from first app.now.tasks number app.now.messages) }
+    requires tasks { first + length tasks.now < 2 ^ 31 }
+    requires messages { number + length messages.now < 2 ^ 31 }
+    ensures { IfOk result (λ v. v ≡ messages_from first tasks.now number messages.now) }
 {
-    let messages = app.messages.as_slice();
-    let tasks = app.tasks.as_slice();
     let mut numbered = Vec::new(alloc);
     for (i, message) in messages.iter().enumerate() {
         numbered.push(number_message(alloc, first, tasks, number + i as u32, message)?)?;
@@ -157,34 +115,33 @@ fn number_messages(
 /// The application whose first task and first message have these numbers.
 fn number_app(
     alloc: Global,
-    nodes: &[Name],
+    nodes: &NodePlaces<'_>,
     task: u32,
     message: u32,
     app: &RawApp,
 ) -> Result<App, AllocError>
-    requires nodes { length nodes.now < 2 ^ 31 }
     requires tasks { task + length app.now.tasks < 2 ^ 31 }
     requires messages { message + length app.now.messages < 2 ^ 31 }
     ensures { IfOk result (λ a. a ≡ app_of nodes.now task message app.now) }
 {
+    let tasks = TaskPlaces::of(alloc, app.tasks.as_slice())?;
     Ok(App {
         name: app.name.copy(alloc)?,
         period: app.period,
         deadline: app.deadline,
         tasks: number_tasks(alloc, nodes, task, app.tasks.as_slice())?,
-        messages: number_messages(alloc, task, message, app)?,
+        messages: number_messages(alloc, task, &tasks, message, app.messages.as_slice())?,
     })
 }
 
 /// The applications of the mode, the first task and the first message of which have these numbers.
 fn number_apps(
     alloc: Global,
-    nodes: &[Name],
+    nodes: &NodePlaces<'_>,
     task: u32,
     message: u32,
     mode: &RawMode,
 ) -> Result<ListOf<App>, AllocError>
-    requires nodes { length nodes.now < 2 ^ 31 }
     requires tasks { task + task_count mode.now < 2 ^ 31 }
     requires messages { message + message_count mode.now < 2 ^ 31 }
     ensures { IfOk result (λ v. v ≡ apps_from nodes.now task message mode.now.apps) }
@@ -227,12 +184,11 @@ fn count_messages(mode: &RawMode) -> u32
 /// The mode whose first task and first message have these numbers.
 fn number_mode(
     alloc: Global,
-    nodes: &[Name],
+    nodes: &NodePlaces<'_>,
     task: u32,
     message: u32,
     mode: &RawMode,
 ) -> Result<Mode, AllocError>
-    requires nodes { length nodes.now < 2 ^ 31 }
     requires tasks { task + task_count mode.now < 2 ^ 31 }
     requires messages { message + message_count mode.now < 2 ^ 31 }
     ensures { IfOk result (λ m. m ≡ mode_of nodes.now task message mode.now) }
@@ -244,13 +200,15 @@ fn number_mode(
 }
 
 /// The modes of the file.
-fn number_modes(alloc: Global, raw: &RawSet) -> Result<ListOf<Mode>, AllocError>
-    requires nodes { length raw.now.nodes < 2 ^ 31 }
+fn number_modes(
+    alloc: Global,
+    nodes: &NodePlaces<'_>,
+    raw: &RawSet,
+) -> Result<ListOf<Mode>, AllocError>
     requires tasks { sum_by task_count raw.now.modes < 2 ^ 31 }
     requires messages { sum_by message_count raw.now.modes < 2 ^ 31 }
-    ensures { IfOk result (λ v. v ≡ modes_from raw.now.nodes 0 0 raw.now.modes) }
+    ensures { IfOk result (λ v. v ≡ modes_from nodes.now 0 0 raw.now.modes) }
 {
-    let nodes = raw.nodes.as_slice();
     let mut numbered = Vec::new(alloc);
     let mut next_task = 0;
     let mut next_message = 0;
@@ -270,13 +228,13 @@ pub(crate) fn number_set(alloc: Global, raw: &RawSet) -> Result<ModeSet, AllocEr
     requires messages { sum_by message_count raw.now.modes < 2 ^ 31 }
     ensures { IfOk result (λ s. s ≡ set_of raw.now) }
 {
-    let nodes = raw.nodes.as_slice();
+    let nodes = NodePlaces::of(alloc, raw.nodes.as_slice())?;
     Ok(ModeSet {
         slots: raw.slots as u32,
         round: raw.round,
         gap: raw.gap,
-        host: find_node(nodes, &raw.host),
-        nodes: copy_names(alloc, nodes)?,
-        modes: number_modes(alloc, raw)?,
+        host: nodes.find(&raw.host),
+        nodes: copy_names(alloc, raw.nodes.as_slice())?,
+        modes: number_modes(alloc, &nodes, raw)?,
     })
 }
