@@ -3,3 +3,4 @@ mod Sources
 mod BaseLists
 mod Bounded
 mod Loadings
+mod TableLemmas

@@ -9,5 +9,6 @@ mod flat;
 mod graph;
 mod loads;
 mod problem;
+mod schedule;
 
 pub use problem::Problem;

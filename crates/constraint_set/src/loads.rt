@@ -19,7 +19,7 @@ fn natural_of(value: i64) -> u64
 }
 
 /// The place of the round that a round instance is one of.
-fn place_of_round(value: i64, rounds: u32) -> u64
+pub(crate) fn place_of_round(value: i64, rounds: u32) -> u64
     requires { 1 ≤ rounds }
     ensures { result ≡ (natural value - 1) % rounds }
 {

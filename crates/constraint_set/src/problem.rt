@@ -8,6 +8,8 @@ ghost use Rattle.sched_model.specs.Numbers.{span};
 ghost use Rattle.sched_model.specs.OpenPrefix.{Chosen};
 ghost use Rattle.sched_model.specs.ProblemLimits.{ProblemFits};
 ghost use Rattle.sched_model.specs.ValidMode.{IsValid};
+ghost use Rattle.sched_model.specs.PrintedSchedule.{schedule_of};
+ghost use Rattle.tick_num.specs.Differences.{listed};
 ghost use Rattle.constraint_set.specs.Decided.{AllRoom, FirstOver};
 
 use crate::base::make_base;
@@ -15,11 +17,12 @@ use crate::choices::{alternatives_at, diffs_at};
 use crate::decisions::{Decisions, make_decisions};
 use crate::flat::{FlatMode, flatten};
 use crate::loads::first_overfull;
+use crate::schedule::make_schedule;
 use app_graph::ModeSet;
-use sched_model::{hyper, instances};
+use sched_model::{Schedule, hyper, instances};
 use std::alloc::{AllocError, Global};
 use std::marker::Model;
-use tick_num::Diff;
+use tick_num::{Diff, Time};
 
 /// The constraint problem of a mode, for a number of rounds in a hyperperiod.
 #[derive(Drop)]
@@ -144,5 +147,23 @@ impl Problem {
         ensures some { IfSome result (FirstOver self.now.mode.slots self.now.rounds (decisions self.now.mode) prefix.now) }
     {
         first_overfull(&self.decisions, prefix, self.rounds, self.mode.slots())
+    }
+
+    /// The schedule of a full list of choices and a value for each variable, in ticks: its tables have the messages
+    /// whose choices name their rounds, in file order.
+    pub fn to_schedule(&self, choices: &[i64], values: &[Time]) -> Result<Schedule, AllocError>
+        requires full { length choices.now ≡ length (decisions self.now.mode) }
+        requires values { length values.now ≡ vars self.now.mode self.now.rounds }
+        ensures { IfOk result (λ s. s ≡ schedule_of self.now.mode self.now.rounds choices.now (listed values.now)) }
+    {
+        let alloc = *self.base.allocator();
+        make_schedule(
+            alloc,
+            &self.mode,
+            self.rounds,
+            self.ticks,
+            choices,
+            values,
+        )
     }
 }
