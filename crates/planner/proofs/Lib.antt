@@ -1,5 +1,1 @@
-pub mod StartLemmas
-pub mod ClosedForm
-pub mod SettledLemmas
-pub mod SettledPlans
 pub mod Trying

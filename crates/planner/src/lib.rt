@@ -4,8 +4,5 @@
 pub mod laws;
 mod plan;
 mod rounds;
-mod settled;
-mod starts;
 
-pub use plan::{is_settled, plan_mode};
-pub use rounds::{Planned, Tried, Tries, plan_rounds};
+pub use plan::{Planned, plan_mode};

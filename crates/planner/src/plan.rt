@@ -1,80 +1,70 @@
 //! The plan of a mode.
 
-ghost use Rattle.std.specs.Prelude.{◌≡◌, ◌<◌, ◌≤◌, ◌/◌, length, IfOk, unsigned_abs, true, false};
+ghost use Rattle.std.specs.Prelude.{◌≡◌, ◌<◌, length, IfOk};
 ghost use Rattle.app_graph.specs.Validation.{KeepsRules};
-ghost use Rattle.sched_model.specs.PlainMode as plain;
-ghost use Rattle.sched_model.specs.PlainMode.{plain_mode, plain_at, mode_at};
-ghost use Rattle.sched_model.specs.ModeLimits.{IsLimited};
-ghost use Rattle.sched_model.specs.ValidMode.{IsValid};
-ghost use Rattle.planner.specs.Planning.{IsPart, IsSettled};
+ghost use Rattle.sched_model.specs.PlainMode.{plain_at};
+ghost use Rattle.planner.specs.Plans.{IsPlanned};
 
-use crate::settled::{Times, are_distinct, has_no_message, nodes_of, settled_plan};
-use app_graph::{ListOf, Mode, ModeSet};
-use proof_tree::ModePart;
-use sched_model::hyper;
+use crate::laws::plans_are_best;
+use crate::rounds::{Tried, try_rounds};
+use app_graph::{ListOf, ModeSet};
+use proof_tree::{ModePart, Tree};
+use sched_model::laws::kept_modes_are_valid;
+use sched_model::{Schedule, most_rounds};
 use std::alloc::{AllocError, Global};
 
-/// Whether nothing is left to choose in the mode: it has no message, and no two of its tasks are on one node.
-pub fn is_settled(alloc: Global, set: &ModeSet, mode: &Mode) -> Result<bool, AllocError>
-    ensures settled { IfOk result (λ yes. yes ≡ true → IsSettled (plain_mode set.now mode.now)) }
-    ensures choices { IfOk result (λ yes. yes ≡ false → ¬ (IsSettled (plain_mode set.now mode.now))) }
+/// What is planned for a mode.
+#[derive(Drop)]
+pub enum Planned {
+    /// Its trees for 1 round, for 2 rounds and so on, and its schedule of the next number of rounds, if it has one;
+    /// and how many prefixes were visited in all.
+    Made(ModePart, u64),
+    /// The number of rounds at which more prefixes are visited in all than the budget.
+    Spent { rounds: u64 },
+}
+
+/// The part of these trees and this schedule.
+fn part(refuted: Vec<Tree>, schedule: Option<Schedule>) -> ModePart
+    ensures trees { result.refuted ≡ refuted.items }
+    ensures schedule { result.schedule ≡ schedule }
 {
-    let apps = mode.apps.as_slice();
-    if !has_no_message(apps) {
-        return Ok(false);
+    ModePart {
+        refuted: ListOf::from_vec(refuted),
+        schedule,
     }
-    let nodes = nodes_of(alloc, apps)?;
-    Ok(are_distinct(nodes.as_slice()))
 }
 
-/// The plan of a mode whose hyperperiod has so many ticks.
-fn plan_apps(alloc: Global, set: &ModeSet, mode: &Mode, hyper: u64) -> Result<ModePart, AllocError>
-    requires valid { IsValid (plain_mode set.now mode.now) }
-    requires settled { IsSettled (plain_mode set.now mode.now) }
-    requires hyper { hyper ≡ plain.hyper (plain_mode set.now mode.now) }
-    requires wide { unsigned_abs set.now.round ≤ unsigned_abs set.now.gap }
-    requires short_gap { unsigned_abs set.now.gap ≤ 1000000000 }
-    requires few { hyper / unsigned_abs set.now.round ≤ 256 }
-    ensures { IfOk result (IsPart (plain_mode set.now mode.now)) }
-{
-    let apps = mode.apps.as_slice();
-    let tasks = nodes_of(alloc, apps)?.len();
-    let times = Times {
-        round: set.round.unsigned_abs(),
-        gap: set.gap.unsigned_abs(),
-        hyper,
-    };
-    Ok(ModePart {
-        refuted: ListOf::from_vec(Vec::new(alloc)),
-        schedule: settled_plan(alloc, times, apps, tasks)?,
-    })
-}
-
-/// The mode of this number.
-fn mode_of(set: &ModeSet, mode: u32) -> &Mode
-    requires { mode < length set.now.modes }
-    ensures { result.now ≡ mode_at set.now mode }
-{
-    &set.modes.as_slice()[mode as usize]
-}
-
-/// The hyperperiod of the mode of this number, in ticks.
-fn ticks_of(set: &ModeSet, mode: u32) -> u64
+/// Plans the mode of this number: tries 1 round, 2 rounds and so on, each over what is left of the budget, to the first
+/// that has a schedule. Its schedule has the fewest rounds, and it has none exactly where no number of rounds has one.
+/// `Spent` comes exactly where the cost of the mode is above `budget`.
+///
+/// `docs/PLAN_DOCUMENT.md` says what a plan is, and what the search visits.
+pub fn plan_mode(
+    alloc: Global,
+    set: &ModeSet,
+    mode: u32,
+    budget: u64,
+) -> Result<Planned, AllocError>
     requires rules { KeepsRules set.now }
     requires mode { mode < length set.now.modes }
-    ensures { result ≡ plain.hyper (plain_at set.now mode) }
+    ensures { IfOk result (IsPlanned (plain_at set.now mode) budget) }
 {
-    hyper(set, mode).unsigned_abs()
-}
-
-/// The plan of the mode of this number, in which nothing is left to choose: the schedule with the fewest rounds
-/// and the least values, or none where no number of rounds has a schedule.
-pub fn plan_mode(alloc: Global, set: &ModeSet, mode: u32) -> Result<ModePart, AllocError>
-    requires rules { KeepsRules set.now }
-    requires mode { mode < length set.now.modes }
-    requires settled { IsSettled (plain_at set.now mode) }
-    ensures { IfOk result (IsPart (plain_at set.now mode)) }
-{
-    let ticks = ticks_of(set, mode);
-    plan_apps(alloc, set, mode_of(set, mode), ticks)
+    kept_modes_are_valid();
+    plans_are_best();
+    let mut refuted = Vec::new(alloc);
+    let mut left = budget;
+    for before in 0..most_rounds(set, mode) {
+        match try_rounds(alloc, set, mode, before + 1, left)? {
+            Tried::Made { schedule, visited } => {
+                let cost = budget - left + visited;
+                return Ok(Planned::Made(part(refuted, Some(schedule)), cost));
+            }
+            Tried::Refuted { tree, visited } => {
+                refuted.push(tree)?;
+                left -= visited;
+            }
+            Tried::Spent => return Ok(Planned::Spent { rounds: before + 1 }),
+        }
+    }
+    Ok(Planned::Made(part(refuted, None), budget - left))
 }

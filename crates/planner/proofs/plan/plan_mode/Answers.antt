@@ -1,20 +1,26 @@
-use Rattle.std.proofs.Common.{◌≡◌, ◌≤◌, ◌/◌, ◌∙◌, ap, sym, subst, ℕ, unsigned_abs}
-use Rattle.app_graph.specs.declared.mode_set.Mode.{Mode}
-use Rattle.sched_model.specs.PlainMode.{plain_mode, mode_at}
-use Rattle.sched_model.specs.ValidMode.{IsValid}
-use Rattle.sched_model.proofs.KeptSets.{mode_at_valid}
-use Rattle.sched_model.proofs.LimitedModes.{mode_at_limited}
+use Rattle.std.proofs.Common.{arith, refl}
+use Rattle.sched_model.specs.PlainMode.{plain_at}
+use Rattle.planner.proofs.Trying.{made_plan, none_plan, spent_plan, next_try}
 use Rattle.planner.proofs.plan.plan_mode.Goals as goal
 
-pub plan_apps-requires-clause-valid : goal.plan_apps-requires-clause-valid
-plan_apps-requires-clause-valid c = subst (λ (mode : Mode). IsValid (plain_mode c.args.set.now mode)) (sym c.mode_of.ensures) (mode_at_valid c.args.set.now c.requires.rules c.args.mode c.requires.mode)
+pub returns-in-Made : goal.returns-in-Made
+returns-in-Made c =
+    made_plan (plain_at c.args.set.now c.args.mode) c.args.budget c.loop-before.refuted.items c.part.result.refuted c.part.result.schedule c.loop-before.left c.loop-before.before c.in-Made.visited _ c.in-Made.schedule
+    c.in_ok-schedule.field-0 c.plans_are_best.ensures ((c.kept_modes_are_valid.ensures c.args.set.now c.requires.rules).1 c.args.mode c.requires.mode) c.part.ensures.trees c.part.ensures.schedule refl
+    c.loop-before.invariant (omega (arith, c.loop-before-test.true, c.most_rounds-before-end.ensures)) c.in_ok-schedule.ensures c.in-Made.is
 
-pub plan_apps-requires-clause-wide : goal.plan_apps-requires-clause-wide
-plan_apps-requires-clause-wide c = (mode_at_limited c.args.set.now c.requires.rules c.args.mode c.requires.mode).gap.0
+pub returns-in-Spent : goal.returns-in-Spent
+returns-in-Spent c =
+    spent_plan (plain_at c.args.set.now c.args.mode) c.args.budget c.loop-before.refuted.items c.loop-before.left c.loop-before.before c.in_ok-schedule.field-0
+    c.loop-before.invariant (omega (arith, c.loop-before-test.true, c.most_rounds-before-end.ensures)) c.in_ok-schedule.ensures c.in-Spent.is
 
-pub plan_apps-requires-clause-short_gap : goal.plan_apps-requires-clause-short_gap
-plan_apps-requires-clause-short_gap c = (mode_at_limited c.args.set.now c.requires.rules c.args.mode c.requires.mode).gap.1
+pub loop-before-preserved : goal.loop-before-preserved
+loop-before-preserved c =
+    next_try (plain_at c.args.set.now c.args.mode) c.args.budget c.loop-before.refuted.items c.push.new.self.items c.loop-before.left _ c.loop-before.before c.in-Refuted.visited c.in-Refuted.tree c.in_ok-schedule.field-0
+    c.loop-before.invariant c.in_ok-schedule.ensures c.in-Refuted.is c.in_ok-push-in-Refuted.ensures.items refl
 
-pub plan_apps-requires-clause-few : goal.plan_apps-requires-clause-few
-plan_apps-requires-clause-few c =
-    subst (λ (h : ℕ). h / unsigned_abs c.args.set.now.round ≤ 256) (sym c.ticks_of-ticks.ensures) (mode_at_limited c.args.set.now c.requires.rules c.args.mode c.requires.mode).rounds
+pub returns : goal.returns
+returns c =
+    none_plan (plain_at c.args.set.now c.args.mode) c.args.budget c.loop-before.refuted.items c.part-2.result.refuted c.part-2.result.schedule c.loop-before.left c.loop-before.before _
+    c.plans_are_best.ensures ((c.kept_modes_are_valid.ensures c.args.set.now c.requires.rules).1 c.args.mode c.requires.mode) c.part-2.ensures.trees c.part-2.ensures.schedule refl
+    c.loop-before.invariant (omega (arith, c.loop-before-test.false, c.loop-before.auto.before-end, c.most_rounds-before-end.ensures))
