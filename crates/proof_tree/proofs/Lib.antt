@@ -18,3 +18,5 @@ pub mod LineRoom
 pub mod GoodNames
 pub mod ScheduleRoom
 pub mod OwnParts
+pub mod ModeCounts
+pub mod DocumentRoom

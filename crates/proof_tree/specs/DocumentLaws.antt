@@ -9,6 +9,7 @@ use Rattle.sched_model.specs.RightSchedule.{IsSchedule}
 use Rattle.sched_model.specs.declared.schedule.Schedule.{Schedule}
 use Rattle.sched_model.specs.ValidMode.{IsValid}
 use Rattle.sched_model.specs.ModeLimits.{IsLimited}
+use Rattle.sched_model.specs.SearchCost.{Cost}
 use Rattle.sched_model.specs.RefutationTree.{ValidTree, OwnTree}
 use Rattle.proof_tree.specs.declared.tree.Tree.{Tree}
 use Rattle.proof_tree.specs.declared.tree.ModePart.{ModePart}
@@ -84,3 +85,12 @@ OwnPartsMakeDocuments = (set : ModeSet) (parts : List ModePart) → KeepsRules s
     AllZip (IsRightPart set) set.modes parts
     × AllByRecursion HasRoom (plan_items set parts)
     × (length (plan_text set parts) ≤ limit → OwnDoc set (plan_text set parts))
+
+-- the search of the mode visits at most 100,000 prefixes
+abbrev pub WithinBudget : ModeSet → Mode → Type 0
+WithinBudget set mode = (c : ℕ) × Cost (plain_mode set mode) c × (c ≤ 100000)
+
+-- the document of own parts is one of the search, and so it is accepted, where each of the searches keeps within the greatest budget:
+-- it has few lines beside those of the visited prefixes
+abbrev pub OwnDocumentsHaveRoom : Type 0
+OwnDocumentsHaveRoom = (set : ModeSet) (parts : List ModePart) → KeepsRules set → AllZip (OwnPart set) set.modes parts → AllByRecursion (WithinBudget set) set.modes → OwnDoc set (plan_text set parts)

@@ -1,7 +1,9 @@
 //! Laws of plan documents.
 
-ghost use Rattle.proof_tree.specs.DocumentLaws.{AcceptedAreBest, ListsStand, OneAnswers, OwnPartsMakeDocuments, OwnTreesHaveRoom, RightPartsAreAccepted, TextsAreRead, TreesStand};
+ghost use Rattle.proof_tree.specs.DocumentLaws.{AcceptedAreBest, ListsStand, OneAnswers, OwnDocumentsHaveRoom, OwnPartsMakeDocuments, OwnTreesHaveRoom, RightPartsAreAccepted, TextsAreRead, TreesStand};
 ghost use Rattle.proof_tree.specs.Spelled.{LinesAreExact};
+
+use sched_model::laws::own_trees_count_visits;
 
 /// A line is read as a meaning exactly where it is the one spelling of that meaning.
 pub fn lines_are_exact()
@@ -50,3 +52,10 @@ pub fn own_parts_make_documents()
 pub fn own_trees_have_room()
     ensures { OwnTreesHaveRoom }
 {}
+
+/// Parts that the search makes within the greatest budget have a document of the search, which is accepted.
+pub fn own_documents_have_room()
+    ensures { OwnDocumentsHaveRoom }
+{
+    own_trees_count_visits();
+}

@@ -17,12 +17,14 @@ use Rattle.mode_file.specs.Reading.{Broken, toml_rule, top_table, raw_of}
 use Rattle.mode_file.specs.Faults.{of_graph}
 use Rattle.mode_file.specs.Tables.{table_rules}
 use Rattle.mode_file.specs.Walks.{Breaks}
-use Rattle.proof_tree.specs.declared.tree.ModePart.{ModePart}
-use Rattle.sched_model.specs.PlainMode.{plain_at}
-use Rattle.planner.specs.Planning.{EachPart, IsPart}
 use Rattle.ttw_program.specs.declared.status.Status.{Status}
 use Rattle.ttw_program.specs.declared.status.Status.TheVariants.{ModeFile}
 use Rattle.ttw_program.specs.FaultLines.{file_fault_line}
+use Rattle.ttw_program.specs.declared.answers.Answer.{Answer}
+use Rattle.ttw_program.specs.declared.mode_files.ModeFile.{ModeFile as Says}
+use Rattle.ttw_program.specs.declared.mode_files.ModeFile.TheVariants.{Set, Refused}
+use Rattle.app_graph.specs.Validation.{KeepsRules}
+use Rattle.ttw_program.specs.ModeFiles.{Said, SaysOf}
 use Rattle.ttw_program.specs.Due.{OfSet}
 
 -- a fault that is not want of memory is that of the first broken rule
@@ -48,35 +50,36 @@ too_long bytes l = ap with_test (lt-leb (length bytes) 1048576 l)
     with_test : Bool → Rule FileFault
     with_test b = first_of (first_of (unless b TooLong ∷ toml_rule bytes ∷ table_rules (top_table bytes) ∷ []) ∷ option_map of_graph (value_rules (raw_of bytes)) ∷ [])
 
--- what is due of the bytes is due of the file that has them
-pub of_whole : (told : Told) (bytes : List ℕ) (Due : List ℕ → Status → List ℕ → Type 0) (s : Status) (t : List ℕ) → IsWhole told bytes → Due bytes s t → OfFile told Due s t
-of_whole untold bytes Due s t w d = (bytes, d)
-of_whole missing bytes Due s t w d = absurd w
-of_whole (file all) bytes Due s t w d = subst (λ (b : List ℕ). Due b s t) (sym w) d
+-- what the bytes say is what the file that has them says
+pub says_whole : (told : Told) (bytes : List ℕ) (said : Says) → IsWhole told bytes → Said bytes said → SaysOf told said
+says_whole untold bytes said w d = (bytes, d)
+says_whole missing bytes said w d = absurd w
+says_whole (file all) bytes said w d = subst (λ (b : List ℕ). Said b said) (sym w) d
 
 -- what is read of a longer file
 pub longer_at : (told : Told) (most before now : ℕ) (end : ReadEnd) (bytes : Vec ℕ Global) → EndsReading told most before now (Err end) → end ≡ Long bytes → IsLonger told most bytes.items
 longer_at told most before now end bytes ends is = subst (λ (e : ReadEnd). EndsReading told most before now (Err e)) is ends
 
 -- a longer file is refused
-pub of_longer : (told : Told) (bytes : List ℕ) (Due : ModeSet → Status → List ℕ → Type 0) (s : Status) (t : List ℕ) → IsLonger told 1048576 bytes → s ≡ ModeFile → t ≡ file_fault_line TooLong → OfFile told (OfSet Due) s t
-of_longer untold bytes Due s t l es et = (bytes, inl (TooLong, too_long bytes (omega (arith, l)), es, et))
-of_longer missing bytes Due s t l es et = absurd l
-of_longer (file all) bytes Due s t l es et = inl (TooLong, too_long all l.0, es, et)
+pub says_longer : (told : Told) (bytes : List ℕ) (answer : Answer) → IsLonger told 1048576 bytes → answer.status ≡ ModeFile → answer.text ≡ file_fault_line TooLong → SaysOf told (Refused answer)
+says_longer untold bytes answer l es et = (bytes, (TooLong, too_long bytes (omega (arith, l)), es, et))
+says_longer missing bytes answer l es et = absurd l
+says_longer (file all) bytes answer l es et = (TooLong, too_long all l.0, es, et)
 
--- ---- parts
+-- what is due of the set that a file says is due of the file
+pub of_said : (told : Told) (set : ModeSet) (D : ModeSet → Status → List ℕ → Type 0) (s : Status) (t : List ℕ) → SaysOf told (Set set) → D set s t → OfFile told (OfSet D) s t
+of_said untold set D s t (bytes, says) d = (bytes, inr (set, says.1, d))
+of_said missing set D s t says d = absurd says
+of_said (file bytes) set D s t says d = inr (set, says.1, d)
 
--- the parts of one more mode
-pub each_more : (set : ModeSet) (n : ℕ) (parts new : List ModePart) (part : ModePart) → EachPart set n parts → new ≡ parts ++ part ∷ [] → IsPart (plain_at set n) part → EachPart set (n + 1) new
-each_more set n parts new part each e is = record {
-  count = ap length e ∙ length_push parts part ∙ ap (λ k. k + 1) each.count;
-  is = λ i none l. ⊎_elim
-      (λ (less : i < n). subst (IsPart (plain_at set i)) (sym (ap (λ ps. get_or ps i none) e ∙ get_or_append_left parts (part ∷ []) none i (omega (arith, less, each.count)))) (each.is i none less))
-      (λ (le : n ≤ i). at_end i none (omega (arith, le, l)))
-      (cases_lt i n);
-}
-  where
-    at_end : (i : ℕ) (none : ModePart) → i ≡ n → IsPart (plain_at set i) (get_or new i none)
-    at_end i none same =
-        let here : get_or new i none ≡ part = ap (λ ps. get_or ps i none) e ∙ get_or_at parts part [] none i (each.count ∙ sym same) in
-        subst (IsPart (plain_at set i)) (sym here) (subst (λ (k : ℕ). IsPart (plain_at set k) part) (sym same) is)
+-- and so is the answer that refuses it
+pub of_refused : (told : Told) (answer : Answer) (D : ModeSet → Status → List ℕ → Type 0) → SaysOf told (Refused answer) → OfFile told (OfSet D) answer.status answer.text
+of_refused untold answer D (bytes, says) = (bytes, inl says)
+of_refused missing answer D says = absurd says
+of_refused (file bytes) answer D says = inl says
+
+-- the set that a file says keeps the rules
+pub said_keeps : (told : Told) (set : ModeSet) → SaysOf told (Set set) → KeepsRules set
+said_keeps untold set (bytes, says) = says.0
+said_keeps missing set says = absurd says
+said_keeps (file bytes) set says = says.0

@@ -5,12 +5,13 @@ use Rattle.std.specs.Prelude.{if◌then◌else◌}
 use Rattle.std.specs.Io.KnownBytes.{append_known}
 use Rattle.ttw_io.specs.Outside.{Rose, Told, untold, missing, file, OfFile, AddsFront}
 use Rattle.ttw_program.specs.declared.status.Status.{Status}
-use Rattle.ttw_program.specs.declared.status.Status.TheVariants.{Done, NoSchedule, Usage, ModeFile, ReadFault, WriteFault}
+use Rattle.ttw_program.specs.declared.status.Status.TheVariants.{Done, NoSchedule, Usage, ModeFile, Plan, Budget, ReadFault, WriteFault}
 use Rattle.ttw_program.specs.FaultLines.{read_fault_line}
 use Rattle.ttw_program.specs.Endings.{SinkCounts, Counts, FlushedOnce, Ends, Finishes, AddsDue, ReadFaultDue}
 use Rattle.ttw_program.specs.Commands.{Command, plan, none}
-use Rattle.ttw_program.specs.Due.{OfCommand, OfSet, PlanDue, plan_status}
-use Rattle.proof_tree.specs.declared.tree.ModePart.{ModePart}
+use Rattle.ttw_program.specs.Plans.{plan_status}
+use Rattle.ttw_program.specs.Due.{OfCommand, OfSet, PlanDue}
+use Rattle.app_graph.specs.declared.mode_set.ModeSet.{ModeSet}
 
 -- a status that an answer has
 pub data IsAnswered : Status → Type 0 where
@@ -18,6 +19,8 @@ pub data IsAnswered : Status → Type 0 where
   no_schedule : IsAnswered NoSchedule
   usage : IsAnswered Usage
   mode_file : IsAnswered ModeFile
+  refused_plan : IsAnswered Plan
+  budget : IsAnswered Budget
 
 answered : (a b : Status) → a ≡ b → IsAnswered b → IsAnswered a
 answered a b e k = subst IsAnswered (sym e) k
@@ -26,19 +29,22 @@ of_test : (b : Bool) → IsAnswered (if b then Done else NoSchedule)
 of_test true = done
 of_test false = no_schedule
 
-of_set : (bytes : List ℕ) (s : Status) (t : List ℕ) → OfSet PlanDue bytes s t → IsAnswered s
-of_set bytes s t (inl (fault, broken, es, et)) = answered s ModeFile es mode_file
-of_set bytes s t (inr (set, reads, inl (choices, es, et))) = answered s ModeFile es mode_file
-of_set bytes s t (inr (set, reads, inr (all, (parts, each, es, et)))) = answered s (plan_status parts) es (of_test _)
+plan_answered : (most : ℕ) (set : ModeSet) (s : Status) (t : List ℕ) → PlanDue most set s t → IsAnswered s
+plan_answered most set s t (inl (parts, all, es, et, own)) = answered s (plan_status parts) es (of_test _)
+plan_answered most set s t (inr (i, r, spent, es, et)) = answered s Budget es budget
 
-of_file : (told : Told) (s : Status) (t : List ℕ) → OfFile told (OfSet PlanDue) s t → IsAnswered s
-of_file untold s t (bytes, d) = of_set bytes s t d
-of_file missing s t d = absurd d
-of_file (file bytes) s t d = of_set bytes s t d
+of_set : (D : ModeSet → Status → List ℕ → Type 0) → ((set : ModeSet) (s : Status) (t : List ℕ) → D set s t → IsAnswered s) → (bytes : List ℕ) (s : Status) (t : List ℕ) → OfSet D bytes s t → IsAnswered s
+of_set D k bytes s t (inl (fault, broken, es, et)) = answered s ModeFile es mode_file
+of_set D k bytes s t (inr (set, reads, d)) = k set s t d
+
+of_file : (D : List ℕ → Status → List ℕ → Type 0) → ((bytes : List ℕ) (s : Status) (t : List ℕ) → D bytes s t → IsAnswered s) → (told : Told) (s : Status) (t : List ℕ) → OfFile told D s t → IsAnswered s
+of_file D k untold s t (bytes, d) = k bytes s t d
+of_file D k missing s t d = absurd d
+of_file D k (file bytes) s t d = k bytes s t d
 
 -- what is due of a command has the status of an answer
 pub due_answered : (command : Command) (told : List ℕ → Told) (s : Status) (t : List ℕ) → OfCommand command told s t → IsAnswered s
-due_answered (plan name budget) told s t d = of_file (told name) s t d
+due_answered (plan name most) told s t d = of_file (OfSet (PlanDue most)) (of_set (PlanDue most) (plan_answered most)) (told name) s t d
 due_answered none told s t d = answered s Usage d.0 usage
 
 adds : (Due : Status → List ℕ → Type 0) (counts : Counts) (old new : Option (List ℕ)) (s : Status) (t : List ℕ) → IsAnswered s → Due s t → FlushedOnce counts.sink → new ≡ append_known old t → Ends Due counts old new s
@@ -46,6 +52,8 @@ adds Due counts old new s t done d f e = (f, (t, d, e))
 adds Due counts old new s t no_schedule d f e = (f, (t, d, e))
 adds Due counts old new s t usage d f e = (f, (t, d, e))
 adds Due counts old new s t mode_file d f e = (f, (t, d, e))
+adds Due counts old new s t refused_plan d f e = (f, (t, d, e))
+adds Due counts old new s t budget d f e = (f, (t, d, e))
 
 -- an answer that is due was written, or a prefix of it
 pub ends_answer : (Due : Status → List ℕ → Type 0) (counts : Counts) (old new : Option (List ℕ)) (s result : Status) (t : List ℕ) → IsAnswered s → Due s t →

@@ -1,3 +1,3 @@
-pub mod Modes
 pub mod Answering
 pub mod EndingLemmas
+pub mod PlanAnswers

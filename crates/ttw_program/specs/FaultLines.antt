@@ -2,6 +2,7 @@
 use Rattle.std.specs.Prelude.{◌≡◌, ℕ, codes, List, [], ◌∷◌, ◌++◌}
 use Rattle.ttw_program.specs.declared.status.Status.{Status}
 use Rattle.ttw_program.specs.declared.status.Status.TheVariants.{ModeFile}
+use Rattle.ttw_text.specs.Numbers.{spelled}
 use Rattle.app_graph.specs.Words.{word}
 use Rattle.mode_file.specs.declared.faults.FileFault.{FileFault}
 use Rattle.mode_file.specs.declared.faults.FileFault.TheVariants.{TooLong, NotToml, Missing, WrongKind, UnknownKey, OutOfRange, Repeated, Unknown, TwoSenders, Cycle, DeadlineLong, TooMany, Memory}
@@ -34,9 +35,9 @@ said Memory = []
 abbrev pub file_fault_line : FileFault → List ℕ
 file_fault_line fault = codes "modes: " ++ said fault ++ 10 ∷ []
 
--- a mode file whose plans are not built yet
-abbrev pub not_built_line : List ℕ
-not_built_line = codes "modes: not built\n"
+-- a mode whose search exceeds the budget at r rounds
+abbrev pub budget_line : List ℕ → ℕ → List ℕ
+budget_line name r = codes "budget: mode " ++ name ++ codes " at " ++ spelled r ++ codes " rounds" ++ 10 ∷ []
 
 -- a mode file is refused with its fault, which is not want of memory
 abbrev pub Refuses : FileFault → Status → List ℕ → Type 0

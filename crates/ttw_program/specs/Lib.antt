@@ -2,4 +2,6 @@ pub mod Statuses
 pub mod FaultLines
 pub mod Endings
 pub mod Commands
+pub mod Plans
+pub mod ModeFiles
 pub mod Due

@@ -15,9 +15,6 @@ pub(crate) const USAGE: &str =
 /// The line of a file that was not read.
 pub(crate) const READ_FAULT: &str = "read fault\n";
 
-/// The line of a mode file whose plans are not built yet.
-pub(crate) const NOT_BUILT: &str = "modes: not built\n";
-
 /// What is said of a refused mode file: some words, and the key or name that they speak of.
 fn said_of(fault: &FileFault) -> (&'static str, &[u8])
     ensures { result.0.now ++ result.1.now ≡ said fault.now }
@@ -48,6 +45,20 @@ pub(crate) fn file_fault_line(alloc: Global, fault: &FileFault) -> Result<Out, A
     out.put(b"modes: ")?;
     out.put(words.as_bytes())?;
     out.put(named)?;
+    out.line_end()?;
+    Ok(out)
+}
+
+/// The line of a mode whose search exceeds the budget at so many rounds.
+pub(crate) fn budget_line(alloc: Global, mode: &[u8], rounds: u64) -> Result<Out, AllocError>
+    ensures { IfOk result (λ out. out ≡ lines.budget_line mode.now rounds) }
+{
+    let mut out = Out::make(alloc);
+    out.put(b"budget: mode ")?;
+    out.put(mode)?;
+    out.put(b" at ")?;
+    out.number(rounds)?;
+    out.put(b" rounds")?;
     out.line_end()?;
     Ok(out)
 }

@@ -4,6 +4,7 @@
 mod answers;
 mod ending;
 mod fault_lines;
+mod mode_files;
 mod planning;
 mod program;
 mod status;

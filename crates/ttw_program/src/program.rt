@@ -42,7 +42,7 @@ fn plan_words<F: Files>(
         None => usage(alloc),
         Some(budget) => {
             if budget >= 1 && budget <= MOST_BUDGET {
-                answer_plan(alloc, file, files)
+                answer_plan(alloc, file, budget, files)
             } else {
                 usage(alloc)
             }

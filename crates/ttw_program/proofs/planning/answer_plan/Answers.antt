@@ -1,14 +1,19 @@
-use Rattle.std.proofs.Common.{subst, sym, List, ℕ}
-use Rattle.ttw_program.specs.Due.{OfSet, PlanDue}
-use Rattle.ttw_program.proofs.Answering.{of_whole, longer_at, of_longer}
+use Rattle.std.proofs.Common.{subst}
+use Rattle.ttw_program.specs.Due.{PlanDue}
+use Rattle.ttw_program.specs.ModeFiles.{SaysOf}
+use Rattle.ttw_program.proofs.Answering.{of_said, of_refused, said_keeps}
 use Rattle.ttw_program.proofs.planning.answer_plan.Goals as goal
 
-pub returns-in_ok-answer-in-Ok-clause-due : goal.returns-in_ok-answer-in-Ok-clause-due
-returns-in_ok-answer-in-Ok-clause-due g c =
-    let d = subst (λ (bytes : List ℕ). OfSet PlanDue bytes c.in_ok-answer-in-Ok.answer.status c.in_ok-answer-in-Ok.answer.text) c.as_slice.ensures.value c.in_ok-answer-in-Ok.ensures in
-    of_whole _ c.in-Ok.bytes.items (OfSet PlanDue) _ _ c.in-Ok.ensures.end d
+pub plan_set-requires-clause-rules : goal.plan_set-requires-clause-rules
+plan_set-requires-clause-rules g c =
+    said_keeps (g.F.Files.contents c.args.files.now c.args.file.now) c.in-Set.set (subst (SaysOf (g.F.Files.contents c.args.files.now c.args.file.now)) c.in-Set.is c.in_ok-set.ensures.says)
 
-pub returns-in_ok-answer-in-Err-Long-clause-due : goal.returns-in_ok-answer-in-Err-Long-clause-due
-returns-in_ok-answer-in-Err-Long-clause-due g c =
-    let r = c.in_ok-answer-in-Err-Long.ensures in
-    of_longer _ c.in-Err-Long._bytes.items PlanDue _ _ (longer_at _ _ _ _ c.in-Err-Long.field-0 c.in-Err-Long._bytes c.in-Err-Long.ensures.end c.in-Err-Long.field-0-is) r.1 r.2
+pub returns-in_ok-plan_set-in-Set-clause-due : goal.returns-in_ok-plan_set-in-Set-clause-due
+returns-in_ok-plan_set-in-Set-clause-due g c =
+    of_said (g.F.Files.contents c.args.files.now c.args.file.now) c.in-Set.set (PlanDue c.args.budget) c.in_ok-plan_set-in-Set.field-0.status c.in_ok-plan_set-in-Set.field-0.text
+    (subst (SaysOf (g.F.Files.contents c.args.files.now c.args.file.now)) c.in-Set.is c.in_ok-set.ensures.says) c.in_ok-plan_set-in-Set.ensures
+
+pub returns-in-Refused-clause-due : goal.returns-in-Refused-clause-due
+returns-in-Refused-clause-due g c =
+    of_refused (g.F.Files.contents c.args.files.now c.args.file.now) c.in-Refused.answer (PlanDue c.args.budget)
+    (subst (SaysOf (g.F.Files.contents c.args.files.now c.args.file.now)) c.in-Refused.is c.in_ok-set.ensures.says)

@@ -1,5 +1,7 @@
-use Rattle.planner.specs.Planning.{EachPart}
+use Rattle.std.proofs.Common.{take}
+use Rattle.std.specs.List.{AllZip}
+use Rattle.ttw_program.specs.Plans.{PlansMode}
 use Rattle.ttw_program.proofs.planning.plan_modes.Given as goal
 
 abbrev pub invariant-loop-mode : goal.invariant-loop-mode
-invariant-loop-mode l = EachPart l.set l.mode l.parts.items
+invariant-loop-mode l = AllZip (PlansMode l.set l.budget) (take l.mode l.set.modes) l.parts.items
