@@ -7,6 +7,7 @@ mod choices;
 mod decisions;
 mod flat;
 mod graph;
+pub mod laws;
 mod loads;
 mod problem;
 mod schedule;

@@ -3,7 +3,7 @@
 ghost use Rattle.std.specs.Prelude.{◌≡◌, ◌-◌, ◌%◌, ◌≤◌, IfNone, IfSome, length};
 ghost use Rattle.sched_model.specs.Numbers.{natural};
 ghost use Rattle.sched_model.specs.ConstraintProblem.{load_of};
-ghost use Rattle.constraint_set.specs.Decided.{AllRoom, FirstOver, decision_of, names_round};
+ghost use Rattle.constraint_set.specs.Decided.{AllRoom, FirstOver, NamesNone, NamesRound, decision_of, names_round};
 
 use crate::decisions::{Choice, Decisions};
 
@@ -34,6 +34,18 @@ fn names_round(choice: Choice, value: i64, rounds: u32, round: u32) -> bool
     match choice {
         Choice::Serve(_, _) => place_of_round(value, rounds) == round as u64,
         Choice::Order(_, _) => false,
+    }
+}
+
+/// The round, from 1, that the choice names; none for a pair.
+pub(crate) fn round_named(choice: Choice, value: i64, rounds: u32) -> Option<u64>
+    requires { 1 ≤ rounds }
+    ensures none { IfNone result (NamesNone rounds (decision_of choice) value) }
+    ensures some { IfSome result (NamesRound rounds (decision_of choice) value) }
+{
+    match choice {
+        Choice::Serve(_, _) => Some(place_of_round(value, rounds) + 1),
+        Choice::Order(_, _) => None,
     }
 }
 

@@ -10,13 +10,13 @@ ghost use Rattle.sched_model.specs.ProblemLimits.{ProblemFits};
 ghost use Rattle.sched_model.specs.ValidMode.{IsValid};
 ghost use Rattle.sched_model.specs.PrintedSchedule.{schedule_of};
 ghost use Rattle.tick_num.specs.Differences.{listed};
-ghost use Rattle.constraint_set.specs.Decided.{AllRoom, FirstOver};
+ghost use Rattle.constraint_set.specs.Decided.{AllRoom, FirstOver, NamesNone, NamesRound};
 
 use crate::base::make_base;
 use crate::choices::{alternatives_at, diffs_at};
 use crate::decisions::{Decisions, make_decisions};
 use crate::flat::{FlatMode, flatten};
-use crate::loads::first_overfull;
+use crate::loads::{first_overfull, round_named};
 use crate::schedule::make_schedule;
 use app_graph::ModeSet;
 use sched_model::{Schedule, hyper, instances};
@@ -165,5 +165,15 @@ impl Problem {
             choices,
             values,
         )
+    }
+
+    /// The round, from 1, that this choice for the decision at the place `at` names. None exactly where it names none of
+    /// the rounds, as that of a pair of tasks. What a choice adds to the loads of the rounds is the law `loads_grow`.
+    pub fn round_of(&self, at: usize, value: i64) -> Option<u64>
+        requires { at < length (decisions self.now.mode) }
+        ensures none { IfNone result (NamesNone self.now.rounds (slice_index_or (decisions self.now.mode) at (order 0 0)) value) }
+        ensures some { IfSome result (NamesRound self.now.rounds (slice_index_or (decisions self.now.mode) at (order 0 0)) value) }
+    {
+        round_named(self.decisions.at(at), value, self.rounds)
     }
 }
