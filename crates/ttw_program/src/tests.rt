@@ -31,29 +31,49 @@ fn answer(
     Ok((status, out.bytes().to_vec(alloc)?))
 }
 
+/// The text, in which the numbers of each cycle are left out: any negative cycle of the same prefix may stand there.
+fn without_cycles(alloc: Global, text: &[u8]) -> Result<Vec<u8>, Fail> {
+    let mut kept = Vec::new(alloc);
+    for line in text.split(|byte| *byte == b'\n') {
+        if line.starts_with(b"cycle ") {
+            kept.extend_from_slice(b"cycle")?;
+        } else {
+            kept.extend_from_slice(line)?;
+        }
+        kept.push(b'\n')?;
+    }
+    kept.truncate(kept.len() - 1);
+    Ok(kept)
+}
+
+/// Whether `plan` over the mode file within the budget ends with this status and this text, up to the numbers of cycles.
+fn plans(alloc: Global, file: &str, budget: &str, wanted: (Status, &str)) -> Result<bool, Fail> {
+    let (status, text) = answer(alloc, &["plan", "blink.toml", budget], file, &[], &[])?;
+    let text = without_cycles(alloc, text.as_slice())?;
+    Ok(status == wanted.0 && text.as_slice() == wanted.1.as_bytes())
+}
+
 #[test]
-fn one_task_plan(rt: HostRuntime) -> Result<(), Fail> {
-    let (status, text) = answer(rt.alloc(), &["plan", "blink.toml", "10"], BLINK, &[], &[])?;
-    assert!(rt; status == Status::Done);
-    assert_eq!(rt;
-        text.as_slice(),
-        b"ttw 1\nmode run\nschedule 3\nstart 0 20 60\ntask blink 0\ntable 1\ntable 2\ntable 3\nend\n".as_slice()
-    );
+fn blink_plan(rt: HostRuntime) -> Result<(), Fail> {
+    let plan = "ttw 1\nmode run\nrefute 1\ncycle\nrefute 2\ncycle\nschedule 3\nstart 0 20 60\ntask blink 0\ntable 1\ntable 2\ntable 3\nend\n";
+    assert!(rt; plans(rt.alloc(), BLINK, "10", (Status::Done, plan))?);
+    assert!(rt; plans(rt.alloc(), BLINK, "3", (Status::Done, plan))?);
+    let exceeded = "budget: mode run at 3 rounds\n";
+    assert!(rt; plans(rt.alloc(), BLINK, "2", (Status::Budget, exceeded))?);
     Ok(())
 }
 
 #[test]
 fn wcet_above_deadline(rt: HostRuntime) -> Result<(), Fail> {
     let text = BLINK.replace(rt.alloc(), "deadline = 100", "deadline = 2")?;
-    let (status, text) = answer(
-        rt.alloc(),
-        &["plan", "blink.toml", "10"],
-        text.as_str(),
-        &[],
-        &[],
-    )?;
-    assert!(rt; status == Status::NoSchedule);
-    assert_eq!(rt; text.as_slice(), b"ttw 1\nmode run\nnone\nend\n".as_slice());
+    let mut plan = "ttw 1\nmode run\n".to_string(rt.alloc())?;
+    for rounds in ["1", "2", "3", "4", "5", "6", "7", "8", "9", "10"] {
+        plan.push_str("refute ")?;
+        plan.push_str(rounds)?;
+        plan.push_str("\ncycle\n")?;
+    }
+    plan.push_str("none\nend\n")?;
+    assert!(rt; plans(rt.alloc(), text.as_str(), "10", (Status::NoSchedule, plan.as_str()))?);
     Ok(())
 }
 
@@ -83,7 +103,7 @@ fn failing_sink_and_files(rt: HostRuntime) -> Result<(), Fail> {
     assert_eq!(rt; text.as_slice(), b"read fault\n".as_slice());
     let (status, text) = answer(rt.alloc(), &["plan", "blink.toml", "10"], BLINK, &[], &[3])?;
     assert!(rt; status == Status::WriteFault);
-    assert_eq!(rt; text.as_slice(), b"ttw 1\nmode run\ns".as_slice());
+    assert_eq!(rt; text.as_slice(), b"ttw 1\nmode run\nr".as_slice());
     Ok(())
 }
 
@@ -124,31 +144,81 @@ fn no_round_fits(rt: HostRuntime) -> Result<(), Fail> {
     Ok(())
 }
 
-#[test]
-fn shared_node_not_built(rt: HostRuntime) -> Result<(), Fail> {
-    let mut text = BLINK.to_string(rt.alloc())?;
-    text.push_str("[[mode.app.task]]\nname = \"other\"\nnode = \"n1\"\nwcet = 1\n")?;
-    let (status, text) = answer(
-        rt.alloc(),
-        &["plan", "blink.toml", "10"],
-        text.as_str(),
-        &[],
-        &[],
-    )?;
-    assert!(rt; status == Status::ModeFile);
-    assert_eq!(rt; text.as_slice(), b"modes: not built\n".as_slice());
-    Ok(())
-}
-
 /// A sensor, a controller and an actuator on three nodes, with a message between each two.
 const LOOP: &str =
     "slots = 2\nround = 20\ngap = 100\nhost = \"n0\"\nnodes = [\"n0\", \"n1\", \"n2\"]\n[[mode]]\nname = \"run\"\n[[mode.app]]\nname = \"loop\"\nperiod = 100\ndeadline = 100\n[[mode.app.task]]\nname = \"sense\"\nnode = \"n1\"\nwcet = 2\n[[mode.app.task]]\nname = \"ctrl\"\nnode = \"n0\"\nwcet = 5\n[[mode.app.task]]\nname = \"act\"\nnode = \"n2\"\nwcet = 1\n[[mode.app.message]]\nname = \"m1\"\nfrom = [\"sense\"]\nto = [\"ctrl\"]\n[[mode.app.message]]\nname = \"m2\"\nfrom = [\"ctrl\"]\nto = [\"act\"]\n";
 
 #[test]
-fn loop_not_built(rt: HostRuntime) -> Result<(), Fail> {
-    let words = ["plan", "blink.toml", "13"];
-    let (status, text) = answer(rt.alloc(), &words, LOOP, &[], &[])?;
-    assert!(rt; status == Status::ModeFile);
-    assert_eq!(rt; text.as_slice(), b"modes: not built\n".as_slice());
+fn loop_plan(rt: HostRuntime) -> Result<(), Fail> {
+    let plan = "ttw 1\nmode run\nrefute 1\nbranch\ncycle\nbranch\ncycle\ncycle\ncycle\ncycle\nschedule 2\nstart 0 23\ntask sense 21\ntask ctrl 43\ntask act 120\nmessage m1 23 43\nmessage m2 48 120\ntable 1 m2\ntable 2 m1\nend\n";
+    assert!(rt; plans(rt.alloc(), LOOP, "13", (Status::Done, plan))?);
+    Ok(())
+}
+
+#[test]
+fn loop_budget(rt: HostRuntime) -> Result<(), Fail> {
+    let second = "budget: mode run at 2 rounds\n";
+    assert!(rt; plans(rt.alloc(), LOOP, "12", (Status::Budget, second))?);
+    assert!(rt; plans(rt.alloc(), LOOP, "7", (Status::Budget, second))?);
+    let first = "budget: mode run at 1 rounds\n";
+    assert!(rt; plans(rt.alloc(), LOOP, "6", (Status::Budget, first))?);
+    Ok(())
+}
+
+/// Two tasks on one node that leave no room for each other.
+const SHARE: &str =
+    "slots = 1\nround = 3\ngap = 12\nhost = \"n0\"\nnodes = [\"n0\"]\n[[mode]]\nname = \"run\"\n[[mode.app]]\nname = \"a\"\nperiod = 4\ndeadline = 4\n[[mode.app.task]]\nname = \"x\"\nnode = \"n0\"\nwcet = 1\n[[mode.app]]\nname = \"b\"\nperiod = 6\ndeadline = 6\n[[mode.app.task]]\nname = \"y\"\nnode = \"n0\"\nwcet = 2\n";
+
+#[test]
+fn shared_node_refuted(rt: HostRuntime) -> Result<(), Fail> {
+    let plan = "ttw 1\nmode run\nrefute 1\nbranch\nrefute 2\nbranch\nrefute 3\nbranch\nrefute 4\nbranch\nnone\nend\n";
+    assert!(rt; plans(rt.alloc(), SHARE, "4", (Status::NoSchedule, plan))?);
+    Ok(())
+}
+
+#[test]
+fn shared_node_budget(rt: HostRuntime) -> Result<(), Fail> {
+    let exceeded = "budget: mode run at 4 rounds\n";
+    assert!(rt; plans(rt.alloc(), SHARE, "3", (Status::Budget, exceeded))?);
+    Ok(())
+}
+
+#[test]
+fn shared_node_plan(rt: HostRuntime) -> Result<(), Fail> {
+    let file = SHARE.replace(rt.alloc(), "wcet = 2", "wcet = 1")?;
+    let plan =
+        "ttw 1\nmode run\nschedule 1\nstart 0\ntask x 3\ntask y 0\ntable 1\nend\n";
+    assert!(rt; plans(rt.alloc(), file.as_str(), "3", (Status::Done, plan))?);
+    let exceeded = "budget: mode run at 1 rounds\n";
+    assert!(rt; plans(rt.alloc(), file.as_str(), "2", (Status::Budget, exceeded))?);
+    Ok(())
+}
+
+/// Three applications, each of two tasks on nodes of their own with one message between them, for rounds of one slot.
+fn three_messages(alloc: Global) -> Result<String, Fail> {
+    let mut file = "slots = 1\nround = 50\ngap = 100\nhost = \"n0\"\nnodes = [\"n0\", \"n1\", \"n2\", \"n3\", \"n4\", \"n5\"]\n[[mode]]\nname = \"run\"\n".to_string(alloc)?;
+    let app = "[[mode.app]]\nname = \"aX\"\nperiod = 100\ndeadline = 100\n[[mode.app.task]]\nname = \"sX\"\nnode = \"nX\"\nwcet = 1\n[[mode.app.task]]\nname = \"cX\"\nnode = \"nY\"\nwcet = 1\n[[mode.app.message]]\nname = \"mX\"\nfrom = [\"sX\"]\nto = [\"cX\"]\n";
+    for (first, second) in [("0", "1"), ("2", "3"), ("4", "5")] {
+        let named = app.replace(alloc, "X", first)?;
+        let placed = named.as_str().replace(alloc, "Y", second)?;
+        file.push_str(placed.as_str())?;
+    }
+    Ok(file)
+}
+
+#[test]
+fn slots_short(rt: HostRuntime) -> Result<(), Fail> {
+    let file = three_messages(rt.alloc())?;
+    let plan = "ttw 1\nmode run\nrefute 1\nshort\nrefute 2\nshort\nnone\nend\n";
+    assert!(rt; plans(rt.alloc(), file.as_str(), "10", (Status::NoSchedule, plan))?);
+    Ok(())
+}
+
+#[test]
+fn second_mode_exceeds_the_budget(rt: HostRuntime) -> Result<(), Fail> {
+    let mut file = LOOP.to_string(rt.alloc())?;
+    file.push_str("[[mode]]\nname = \"idle\"\n[[mode.app]]\nname = \"lamp\"\nperiod = 1300\ndeadline = 99\n[[mode.app.task]]\nname = \"blink\"\nnode = \"n2\"\nwcet = 100\n")?;
+    let exceeded = "budget: mode idle at 14 rounds\n";
+    assert!(rt; plans(rt.alloc(), file.as_str(), "13", (Status::Budget, exceeded))?);
     Ok(())
 }
