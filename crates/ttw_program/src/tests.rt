@@ -107,19 +107,19 @@ fn failing_sink_and_files(rt: HostRuntime) -> Result<(), Fail> {
     Ok(())
 }
 
-/// The plan has 81 bytes, which are written in eleven calls. The flush is the twelfth.
+/// The plan has 117 bytes, which are written in fifteen calls. The flush is the sixteenth.
 #[test]
 fn failing_flush(rt: HostRuntime) -> Result<(), Fail> {
     let words = ["plan", "blink.toml", "10"];
-    let (status, text) = answer(rt.alloc(), &words, BLINK, &[], &[11])?;
+    let (status, text) = answer(rt.alloc(), &words, BLINK, &[], &[15])?;
     assert!(rt; status == Status::WriteFault);
-    assert_eq!(rt; text.len(), 80);
-    let (status, text) = answer(rt.alloc(), &words, BLINK, &[], &[12])?;
+    assert_eq!(rt; text.len(), 112);
+    let (status, text) = answer(rt.alloc(), &words, BLINK, &[], &[16])?;
     assert!(rt; status == Status::WriteFault);
-    assert_eq!(rt; text.len(), 81);
-    let (status, text) = answer(rt.alloc(), &words, BLINK, &[], &[13])?;
+    assert_eq!(rt; text.len(), 117);
+    let (status, text) = answer(rt.alloc(), &words, BLINK, &[], &[17])?;
     assert!(rt; status == Status::Done);
-    assert_eq!(rt; text.len(), 81);
+    assert_eq!(rt; text.len(), 117);
     Ok(())
 }
 
