@@ -54,3 +54,4 @@ pub mod Gaps
 pub mod Visits
 pub mod Verdicts
 pub mod TestLaws
+pub mod TaskNumbers

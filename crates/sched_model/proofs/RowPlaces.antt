@@ -181,6 +181,7 @@ module _ (set : ModeSet) (i : ℕ) where
         record {
           number = sym (ap (λ (x : PlainMessage). x.number) e);
           period = sym (ap (λ (x : PlainMessage). x.period) e);
+          deadline = sym (ap (λ (x : PlainMessage). x.deadline) e);
           from = sym (ap (λ (x : PlainMessage). x.from) e);
           to = sym (ap (λ (x : PlainMessage). x.to) e);
           period_some = p.0;

@@ -3,6 +3,7 @@ pub mod PlainMode
 pub mod TaskGraph
 pub mod Rounds
 pub mod Rows
+pub mod Numbered
 pub mod Links
 pub mod RightSchedule
 pub mod OneHyperperiod

@@ -60,6 +60,7 @@ plain_message ts m = record { number = m.message.number; period = unsigned_abs m
 pub record ShowsMessage (ts : List TaskIn) (m : MessageIn) (msg : PlainMessage) : Type 0 where
   pub number : m.message.number ≡ msg.number
   pub period : unsigned_abs m.app.period ≡ msg.period
+  pub deadline : unsigned_abs m.app.deadline ≡ msg.deadline
   pub from : map (place_in ts) m.message.from ≡ msg.from
   pub to : map (place_in ts) m.message.to ≡ msg.to
   pub period_some : 1 ≤ msg.period

@@ -7,6 +7,7 @@ pub mod laws;
 mod links;
 mod message_clause;
 mod node_clause;
+mod numbered;
 mod numbers;
 mod round_clauses;
 mod rows;
@@ -17,7 +18,9 @@ mod task_clause;
 mod trees;
 mod verdict;
 
+pub use numbered::{MessageRow, message_place, message_row, mode_of_task, task_place, task_row, tasks};
 pub use numbers::{hyper, instances, most_rounds};
+pub use rows::TaskRow;
 pub use schedule::Schedule;
 pub use trees::TreeNode;
 pub use verdict::verify;

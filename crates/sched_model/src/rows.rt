@@ -124,6 +124,13 @@ pub(crate) fn period_of(app: &App) -> u64
     app.period.unsigned_abs()
 }
 
+/// The deadline of the application.
+pub(crate) fn deadline_of(app: &App) -> u64
+    ensures { result ≡ unsigned_abs app.now.deadline }
+{
+    app.deadline.unsigned_abs()
+}
+
 /// How many messages the applications have.
 fn count_messages(apps: &[App]) -> usize
     requires { length (messages_in apps.now) ≤ 64 }
