@@ -2,9 +2,11 @@
 #![tactic(auto)]
 
 pub mod laws;
+mod numbered;
 mod places;
 mod sharing;
 
+pub use numbered::{alternatives, diffs_of};
 pub use places::{TaskTimes, divisor_of, order_diffs, places_of};
 pub use sharing::pairs;
 

@@ -177,7 +177,10 @@ module _ (set : ModeSet) (i : ℕ) where
         let e = message_is j h in
         let m = plain_at set i in
         let h' : j < length m.messages = omega (arith, h, message_count) in
-        let p = (mode_at_limited set keeps i l).periods (message_at m j).period ((mode_at_valid set keeps i l).message_period j h') in
+        let ok = mode_at_valid set keeps i l in
+        let p = (mode_at_limited set keeps i l).periods (message_at m j).period (ok.message_period j h') in
+        let a = ok.producer j h' in
+        let b = ok.consumer j h' in
         record {
           number = sym (ap (λ (x : PlainMessage). x.number) e);
           period = sym (ap (λ (x : PlainMessage). x.period) e);
@@ -186,6 +189,7 @@ module _ (set : ModeSet) (i : ℕ) where
           to = sym (ap (λ (x : PlainMessage). x.to) e);
           period_some = p.0;
           period_most = p.1;
+          deadline_most = omega (arith, (ok.consumer_app j b.0 h' b.1).1, ok.deadline b.0 (ok.edges a.0 b.0 (message_edge m j a.0 b.0 h' a.1 b.1)).to, ok.hyper_limit);
         }
 
 -- the same where these are the applications of the mode

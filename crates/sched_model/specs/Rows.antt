@@ -65,6 +65,7 @@ pub record ShowsMessage (ts : List TaskIn) (m : MessageIn) (msg : PlainMessage) 
   pub to : map (place_in ts) m.message.to ≡ msg.to
   pub period_some : 1 ≤ msg.period
   pub period_most : msg.period ≤ 1000000000
+  pub deadline_most : msg.deadline ≤ 1000000000000
 
 -- the row has the numbers of the task, which are within the limits
 pub record ShowsTask (row : TaskRow) (t : PlainTask) : Type 0 where

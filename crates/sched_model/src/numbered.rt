@@ -48,6 +48,7 @@ pub fn message_row(set: &ModeSet, mode: u32, place: u32) -> MessageRow
     ensures number { result.number ≡ (message_at (plain_at set.now mode) place).number }
     ensures period { result.period ≡ (message_at (plain_at set.now mode) place).period }
     ensures deadline { result.deadline ≡ (message_at (plain_at set.now mode) place).deadline }
+    ensures limits { (1 ≤ result.period) × (result.period ≤ 1000000000) × (result.deadline ≤ 1000000000000) }
 {
     let (app, message) = find_message(apps_of(set, mode), place as usize);
     MessageRow {

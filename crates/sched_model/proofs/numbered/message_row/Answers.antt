@@ -21,3 +21,10 @@ pub returns-clause-deadline : goal.returns-clause-deadline
 returns-clause-deadline c =
     c.deadline_of.ensures ∙ ap (λ (a : App). unsigned_abs a.deadline) c.find_message.ensures.app
     ∙ (message_shown c.args.set.now c.args.mode c.apps_of.result.now c.apps_of.ensures c.requires.rules c.requires.mode c.args.place c.requires.place).deadline
+
+pub returns-clause-limits : goal.returns-clause-limits
+returns-clause-limits c =
+    let shown = message_shown c.args.set.now c.args.mode c.apps_of.result.now c.apps_of.ensures c.requires.rules c.requires.mode c.args.place c.requires.place in
+    let period = returns-clause-period c in
+    let deadline = returns-clause-deadline c in
+    (omega (arith, period, shown.period_some), omega (arith, period, shown.period_most), omega (arith, deadline, shown.deadline_most))
