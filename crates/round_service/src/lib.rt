@@ -3,8 +3,10 @@
 
 mod choices;
 pub mod laws;
+mod numbered;
 
 pub use choices::{MessageTimes, first_choices, later_choices, load, round_of_choice, serve_diffs};
+pub use numbered::{alternatives, diffs_of};
 
 #[cfg(test)]
 mod tests;
