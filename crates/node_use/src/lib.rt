@@ -11,4 +11,6 @@ pub use places::{TaskTimes, divisor_of, order_diffs, places_of};
 pub use sharing::pairs;
 
 #[cfg(test)]
+mod numbered_tests;
+#[cfg(test)]
 mod tests;

@@ -61,12 +61,5 @@ pub fn diffs_of(set: &ModeSet, mode: u32, rounds: u64, pair: (u32, u32), z: i64)
     let later = times_at(set, mode, second);
     let divisor = divisor_of(earlier, later);
     let rounds = rounds as u32;
-    order_diffs(
-        rounds + first,
-        rounds + second,
-        earlier,
-        later,
-        divisor,
-        z,
-    )
+    order_diffs(rounds + first, rounds + second, earlier, later, divisor, z)
 }
