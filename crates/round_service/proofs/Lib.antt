@@ -1,3 +1,4 @@
 pub mod Numbers
 pub mod Loads
 pub mod LaterChoices
+pub mod TestSets

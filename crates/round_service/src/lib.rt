@@ -10,3 +10,6 @@ pub use numbered::{alternatives, diffs_of};
 
 #[cfg(test)]
 mod tests;
+
+#[cfg(test)]
+mod numbered_tests;

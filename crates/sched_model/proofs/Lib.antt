@@ -55,3 +55,4 @@ pub mod Visits
 pub mod Verdicts
 pub mod TestLaws
 pub mod TaskNumbers
+pub mod MarkedWindows

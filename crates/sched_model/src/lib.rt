@@ -18,7 +18,9 @@ mod task_clause;
 mod trees;
 mod verdict;
 
-pub use numbered::{MessageRow, message_place, message_row, mode_of_task, task_place, task_row, tasks};
+pub use numbered::{
+    MessageRow, message_place, message_row, mode_of_task, task_place, task_row, tasks,
+};
 pub use numbers::{hyper, instances, most_rounds};
 pub use rows::TaskRow;
 pub use schedule::Schedule;

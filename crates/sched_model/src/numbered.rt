@@ -6,7 +6,9 @@ ghost use Rattle.sched_model.specs.Numbered.{IsMessageOf, IsTaskOf};
 ghost use Rattle.sched_model.specs.PlainMode.{message_at, plain_at, task_at};
 ghost use Rattle.sched_model.specs.Rows.{ShowsTask};
 
-use crate::rows::{TaskRow, apps_of, deadline_of, find_message, message_count, period_of, task_at, task_count};
+use crate::rows::{
+    TaskRow, apps_of, deadline_of, find_message, message_count, period_of, task_at, task_count,
+};
 use app_graph::ModeSet;
 
 /// A message of a mode. Durations are in ticks.

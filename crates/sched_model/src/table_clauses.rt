@@ -1,14 +1,15 @@
 //! The clauses on the rounds' tables. No call takes memory.
 
-ghost use Rattle.std.specs.Prelude.{◌≡◌, ◌↔◌, ℕ, ◌+◌, ◌-◌, ◌*◌, ◌/◌, ◌<◌, ◌≤◌, IsTrue, [], length, map, pos, slice_index_or, true};
+ghost use Rattle.std.specs.Prelude.{◌≡◌, ◌↔◌, ℕ, ◌+◌, ◌-◌, ◌*◌, ◌/◌, ◌<◌, ◌≤◌, IfNone, IfSome, IsTrue, [], length, map, pos, slice_index_or, true};
 ghost use Rattle.sched_model.specs.Judged.{IsCase, ShowsWindow};
-ghost use Rattle.sched_model.specs.Links.{link_of};
+ghost use Rattle.sched_model.specs.Links.{in_set, link_of};
+ghost use Rattle.sched_model.specs.Marked.{Marks};
 ghost use Rattle.sched_model.specs.Numbers;
 ghost use Rattle.sched_model.specs.OneHyperperiod.{EndsInWindow, EntriesFit, Lists, ServedOnce, ServesFirst, first_start, window_then};
 ghost use Rattle.sched_model.specs.PlainMode.{hyper, instance_count, message_at, plain_at};
 ghost use Rattle.sched_model.specs.RightSchedule.{ExactlyOne, TableFits};
 
-use crate::links::Link;
+use crate::links::{Link, holds};
 use crate::message_clause::{Window, window_of};
 use crate::round_clauses::round_of;
 use crate::rows::message_count;
@@ -140,79 +141,108 @@ fn visit_of(
     }
 }
 
-/// Whether the round at the place carries the message, first in its window `which`.
-fn serves(
+/// Which of the `count` windows from `base` on the round at the place serves, from 0; `count` where it serves none of them.
+fn slot_of(
     set: &ModeSet,
     mode: u32,
     s: &Schedule,
     window: Window,
     ticks: u64,
-    which: u64,
+    base: u64,
+    count: u64,
     place: usize,
-) -> bool
+) -> u64
     requires case { IsCase set.now mode s.now }
     requires window { ShowsWindow (plain_at set.now mode) s.now window }
     requires ticks { ticks ≡ hyper (plain_at set.now mode) }
     requires limits { (1 ≤ ticks) × (ticks ≤ 1000000000000) }
     requires place { place < length s.now.starts }
-    ensures { IsTrue result ↔ ServesFirst (plain_at set.now mode) s.now window.message which place }
+    ensures most { result ≤ count }
+    ensures found { result < count → ServesFirst (plain_at set.now mode) s.now window.message (base + result) place }
+    ensures only { (k : ℕ) → k < count → ServesFirst (plain_at set.now mode) s.now window.message (base + k) place → k ≡ result }
 {
     if !lists(set, mode, s, window, place) {
-        return false;
+        return count;
     }
     let visit = visit_of(set, mode, s, window, ticks, place);
-    if visit.window != which {
-        return false;
+    if !visit.ends {
+        return count;
     }
-    visit.ends
+    if visit.window < base {
+        return count;
+    }
+    (visit.window - base).min(count)
 }
 
-/// The first round from the place `from` on that carries the message, first in its window `which`; the number of rounds where there is none.
-fn next_serving(
+/// The windows, of `count` ones from `base` on, that some round serves, one bit for each; `None` where two rounds serve one of them.
+fn marks(
     set: &ModeSet,
     mode: u32,
     s: &Schedule,
     window: Window,
     ticks: u64,
-    which: u64,
-    from: usize,
-) -> usize
+    base: u64,
+    count: u64,
+) -> Option<u128>
     requires case { IsCase set.now mode s.now }
     requires window { ShowsWindow (plain_at set.now mode) s.now window }
     requires ticks { ticks ≡ hyper (plain_at set.now mode) }
     requires limits { (1 ≤ ticks) × (ticks ≤ 1000000000000) }
-    requires from { from ≤ length s.now.starts }
-    ensures most { result ≤ length s.now.starts }
-    ensures least { from ≤ result }
-    ensures before { (j : ℕ) → from ≤ j → j < result → ¬ (ServesFirst (plain_at set.now mode) s.now window.message which j) }
-    ensures found { result < length s.now.starts → ServesFirst (plain_at set.now mode) s.now window.message which result }
+    requires count { count ≤ 128 }
+    ensures some { IfSome result (λ marked. Marks (plain_at set.now mode) s.now window.message base count (length s.now.starts) marked) }
+    ensures none { IfNone result (¬ ((k : ℕ) → k < count → ExactlyOne (ServesFirst (plain_at set.now mode) s.now window.message (base + k)))) }
 {
-    let count = round_count(s);
-    for place in from..count {
-        if serves(set, mode, s, window, ticks, which, place) {
-            return place;
+    let mut marked = 0u128;
+    for place in 0..round_count(s) {
+        let slot = slot_of(set, mode, s, window, ticks, base, count, place);
+        if slot < count {
+            if holds(marked, slot as usize) {
+                return None;
+            }
+            marked |= 1u128 << slot;
         }
     }
-    count
+    Some(marked)
 }
 
-/// Whether exactly one round carries the message, first in its window `which`.
-fn is_served(set: &ModeSet, mode: u32, s: &Schedule, window: Window, ticks: u64, which: u64) -> bool
+/// Whether the set has each of the first `count` places.
+fn has_all(marked: u128, count: u64) -> bool
+    requires { count ≤ 128 }
+    ensures { IsTrue result ↔ ((k : ℕ) → k < count → in_set marked k ≡ true) }
+{
+    for place in 0..count as usize {
+        if !holds(marked, place) {
+            return false;
+        }
+    }
+    true
+}
+
+/// Whether each of the `count` windows from `base` on has exactly one round that carries the message in it.
+fn some_served(
+    set: &ModeSet,
+    mode: u32,
+    s: &Schedule,
+    window: Window,
+    ticks: u64,
+    base: u64,
+    count: u64,
+) -> bool
     requires case { IsCase set.now mode s.now }
     requires window { ShowsWindow (plain_at set.now mode) s.now window }
     requires ticks { ticks ≡ hyper (plain_at set.now mode) }
     requires limits { (1 ≤ ticks) × (ticks ≤ 1000000000000) }
-    ensures { IsTrue result ↔ ExactlyOne (ServesFirst (plain_at set.now mode) s.now window.message which) }
+    requires count { count ≤ 128 }
+    ensures { IsTrue result ↔ ((k : ℕ) → k < count → ExactlyOne (ServesFirst (plain_at set.now mode) s.now window.message (base + k))) }
 {
-    let count = round_count(s);
-    let first = next_serving(set, mode, s, window, ticks, which, 0);
-    if first == count {
-        return false;
+    match marks(set, mode, s, window, ticks, base, count) {
+        Some(marked) => has_all(marked, count),
+        None => false,
     }
-    next_serving(set, mode, s, window, ticks, which, first + 1) == count
 }
 
-/// Whether each window of a hyperperiod has exactly one round that carries the message in it.
+/// Whether each window of a hyperperiod has exactly one round that carries the message in it. The rounds are gone through once for each
+/// 128 windows.
 fn are_served(set: &ModeSet, mode: u32, s: &Schedule, window: Window, ticks: u64) -> bool
     requires case { IsCase set.now mode s.now }
     requires window { ShowsWindow (plain_at set.now mode) s.now window }
@@ -220,10 +250,14 @@ fn are_served(set: &ModeSet, mode: u32, s: &Schedule, window: Window, ticks: u64
     requires limits { (1 ≤ ticks) × (ticks ≤ 1000000000000) }
     ensures { IsTrue result ↔ ((k : ℕ) → k < instance_count (plain_at set.now mode) (message_at (plain_at set.now mode) window.message) → ExactlyOne (ServesFirst (plain_at set.now mode) s.now window.message k)) }
 {
-    for which in 0..ticks / window.period {
-        if !is_served(set, mode, s, window, ticks, which) {
+    let count = ticks / window.period;
+    let mut base = 0;
+    while base < count {
+        let some = (count - base).min(128);
+        if !some_served(set, mode, s, window, ticks, base, some) {
             return false;
         }
+        base += some;
     }
     true
 }
