@@ -1,0 +1,5 @@
+pub mod Cycles
+pub mod Forces
+pub mod Levels
+pub mod Besides
+pub mod Walks

@@ -1,0 +1,9 @@
+//! The checker of plan documents. It stands apart from the search: it reads a document line by line, and accepts it exactly where it is as it must be.
+#![tactic(auto)]
+
+mod leaves;
+mod loads;
+mod refused;
+mod walk;
+
+pub use refused::Refused;
