@@ -3,6 +3,7 @@
 
 mod leaves;
 mod loads;
+mod names;
 mod refused;
 mod walk;
 
