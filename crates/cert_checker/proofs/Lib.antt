@@ -3,3 +3,4 @@ pub mod Forces
 pub mod Levels
 pub mod Besides
 pub mod Walks
+pub mod Lookups

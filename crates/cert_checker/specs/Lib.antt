@@ -1,3 +1,4 @@
 pub mod Refusals
 pub mod Following
 pub mod TreeStack
+pub mod DraftReading

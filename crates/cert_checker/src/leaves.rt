@@ -13,7 +13,8 @@ const GREATEST: u64 = 2_000_000_000_000;
 
 /// The number that a word spells, where it is within a document's limit, else 0.
 pub(crate) fn value(word: &[u8]) -> u64
-    ensures { result ≡ value word.now }
+    ensures number { result ≡ value word.now }
+    ensures few { result ≤ 2000000000000 }
 {
     match read_u64(word) {
         None => 0,

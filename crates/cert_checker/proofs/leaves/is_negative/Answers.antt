@@ -10,5 +10,5 @@ returns-in-Some-constraint_at c =
     let is = map value c.next.new.self in
     c.leads_back.ensures
     ∙ sym (begun c.args.list.now c.value.result is first c.in-Some-constraint_at.ensures.some.0 c.in-Some-constraint_at.ensures.some.1)
-    ∙ ap (λ (n : ℕ). is_negative c.args.list.now (n ∷ is)) c.value.ensures
+    ∙ ap (λ (n : ℕ). is_negative c.args.list.now (n ∷ is)) c.value.ensures.number
     ∙ ap (λ (ws : List (List ℕ)). is_negative c.args.list.now (map value ws)) (sym c.in-Some.ensures.steps ∙ c.again-left.ensures)

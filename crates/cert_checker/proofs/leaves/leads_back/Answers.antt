@@ -18,7 +18,7 @@ loop-word-preserved c =
     let big : FitsSigned w128 t = search rules in
     let sum : t ≡ s +ℤ next.c = simp to_z-of_z at c.sum_with-sum.ensures in
     let left : length c.loop-word.left ≡ suc (length c.next.new.self) = ap length c.in-Some.ensures.steps in
-    let numbers : map value c.loop-word.left ≡ c.value.result ∷ is = ap (map value) c.in-Some.ensures.steps ∙ ap (λ (n : ℕ). n ∷ is) (sym c.value.ensures) in
+    let numbers : map value c.loop-word.left ≡ c.value.result ∷ is = ap (map value) c.in-Some.ensures.steps ∙ ap (λ (n : ℕ). n ∷ is) (sym c.value.ensures.number) in
     let goes = went_on ds x c.loop-word.at s c.value.result is next c.in-Some-constraint_at.ensures.some.0 c.in-Some-constraint_at.ensures.some.1 (sym c.begins_at.ensures ∙ c.if-not-begins_at.false) in
     simp to_z-of_z (record {
       goes = ap (λ (z : ℤ). goes_round ds x next.y z is) sum ∙ sym goes ∙ ap (goes_round ds x c.loop-word.at s) (sym numbers) ∙ c.loop-word.invariant.goes;
