@@ -4,3 +4,5 @@ pub mod Levels
 pub mod Besides
 pub mod Walks
 pub mod Lookups
+pub mod Errors
+pub mod Drafts
