@@ -4,13 +4,16 @@ use Rattle.std.specs.Prelude.{Option, Some}
 use Rattle.std.proofs.lemmas.List.{drop_all}
 use Rattle.std.proofs.lemmas.List.Elements.{All-append, All-cons, All-nil}
 use Rattle.sched_model.specs.Numbers.{below}
-use Rattle.sched_model.specs.RightSchedule.{IsMessage}
-use Rattle.sched_model.specs.TimeLimits.{IsTime}
+use Rattle.sched_model.specs.RightSchedule.{IsMessage, HasShape}
+use Rattle.sched_model.specs.TimeLimits.{IsTime, HasTimes}
 use Rattle.sched_model.specs.declared.schedule.Schedule.{Schedule}
 use Rattle.sched_model.proofs.Lists.{length-below, get_or-below}
 use Rattle.proof_tree.specs.Accepting.{DocMode}
 use Rattle.proof_tree.specs.Reading.{Refusal, Place, Read, ◌>>=◌, next_item, each, task_at, message_at, table_at}
 use Rattle.cert_checker.specs.declared.draft.Draft.{Draft}
+use Rattle.cert_checker.specs.declared.counts.Next.TheVariants.{Plan}
+use Rattle.cert_checker.specs.TreeStack.{behind_line}
+use Rattle.cert_checker.specs.ModeReading.{Follows}
 use Rattle.cert_checker.specs.DraftReading.{moments_of, tables_due, messages_due, tasks_due, draft_due, InHand, IsWhole}
 use Rattle.cert_checker.proofs.Besides.{bind_assoc, bind_same}
 
@@ -130,3 +133,25 @@ whole_due d starts ts ms bs at done gone l =
 -- a list with one item more keeps what each item has
 pub all_more : {X : Type 0} (P : X → Type 0) (xs ys : List X) (x : X) → All P xs → P x → ys ≡ xs ++ x ∷ [] → All P ys
 all_more {X} P xs ys x all one e = subst (λ (l : List X). All P l) (sym e) (All-append P xs (x ∷ []) all (All-cons P x [] one (All-nil P)))
+
+-- a draft of which all lines were read is a schedule of the mode's shape, and nothing more is read
+pub whole_follows : (o line : ℕ) (d : DocMode) (s : Draft) (x : Schedule) → InHand d s → IsWhole d s → x.starts ≡ s.starts.items → x.tasks ≡ s.tasks.items → x.messages ≡ s.messages.items → x.tables ≡ s.tables.items
+    → Follows o d line (λ rest. draft_due d s (behind_line line rest)) (Plan (Some x))
+whole_follows o line d s x hand whole es et em eb =
+    let y : Schedule = record { starts = s.starts.items; tasks = s.tasks.items; messages = s.messages.items; tables = s.tables.items } in
+    let is : x ≡ y =
+    ap (λ (l : List ℤ). record { starts = l; tasks = x.tasks; messages = x.messages; tables = x.tables }) es
+    ∙ ap (λ (l : List ℤ). record { starts = s.starts.items; tasks = l; messages = x.messages; tables = x.tables }) et
+    ∙ ap (λ (l : List (ℤ × ℤ)). record { starts = s.starts.items; tasks = s.tasks.items; messages = l; tables = x.tables }) em
+    ∙ ap (λ (l : List (List ℕ)). record { starts = s.starts.items; tasks = s.tasks.items; messages = s.messages.items; tables = l }) eb in
+    let shape : HasShape d.mode (length y.starts) y = record {
+      some = hand.some;
+      starts = refl;
+      tables = whole.tables;
+      tasks = whole.tasks ∙ hand.task_count;
+      messages = whole.messages ∙ hand.message_count;
+      numbers = hand.numbers;
+    } in
+    let times : HasTimes y = record { starts = hand.start_times; tasks = hand.task_times; messages = hand.message_times } in
+    subst (λ (z : Schedule). Follows o d line (λ rest. draft_due d s (behind_line line rest)) (Plan (Some z))) (sym is)
+    ((shape, times), λ rest. whole_due d s.starts.items s.tasks.items s.messages.items s.tables.items (behind_line line rest) (omega (arith, whole.tasks)) (omega (arith, whole.messages)) (omega (arith, whole.tables)))

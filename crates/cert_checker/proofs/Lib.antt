@@ -6,3 +6,4 @@ pub mod Walks
 pub mod Lookups
 pub mod Errors
 pub mod Drafts
+pub mod Modes

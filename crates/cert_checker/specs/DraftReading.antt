@@ -44,8 +44,10 @@ tasks_due d starts tasks messages tables at =
 abbrev pub draft_due : DocMode → Draft → Place → Read (Option Schedule)
 draft_due d s at = tasks_due d s.starts.items s.tasks.items s.messages.items s.tables.items at
 
--- so much of a schedule of one round or more was read, in file order
+-- so much of a schedule of one round or more was read, in file order, for a mode whose tasks and messages have a name each
 pub record InHand (d : DocMode) (s : Draft) : Type 0 where
+  pub task_count : length d.tasks ≡ length d.mode.tasks
+  pub message_count : length d.messages ≡ length d.mode.messages
   pub task_names : s.task_names ≡ d.tasks
   pub message_names : s.message_names ≡ d.messages
   pub some : 1 ≤ length s.starts.items

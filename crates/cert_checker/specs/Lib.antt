@@ -2,3 +2,4 @@ pub mod Refusals
 pub mod Following
 pub mod TreeStack
 pub mod DraftReading
+pub mod ModeReading

@@ -1,6 +1,7 @@
 //! The checker of plan documents. It stands apart from the search: it reads a document line by line, and accepts it exactly where it is as it must be.
 #![tactic(auto)]
 
+mod counts;
 mod draft;
 mod entries;
 mod leaves;

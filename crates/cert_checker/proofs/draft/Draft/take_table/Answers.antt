@@ -24,6 +24,8 @@ returns-clause-kept c =
     let table = c.in_ok-numbers.numbers.items in
     let new : c.push.new.self.items ≡ s.tables.items ++ table ∷ [] = search rules in
     λ hand. record {
+      task_count = hand.task_count;
+      message_count = hand.message_count;
       task_names = hand.task_names;
       message_names = hand.message_names;
       some = hand.some;
