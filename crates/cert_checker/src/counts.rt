@@ -2,10 +2,10 @@
 
 ghost use Rattle.std.specs.Prelude.{◌≡◌, ℕ, ◌+◌, ◌<◌, ◌≤◌, length, IfOk, IfErr};
 ghost use Rattle.app_graph.specs.Validation.{KeepsRules};
-ghost use Rattle.sched_model.specs.PlainMode.{most_rounds};
+ghost use Rattle.sched_model.specs.PlainMode.{most_rounds, plain_at};
 ghost use Rattle.proof_tree.specs.Accepting.{DocMode};
 ghost use Rattle.proof_tree.specs.PlanLines.{meaning};
-ghost use Rattle.proof_tree.specs.Reading.{schedule};
+ghost use Rattle.proof_tree.specs.Reading.{Place, schedule, tree};
 ghost use Rattle.proof_tree.specs.TreeLines.{Items};
 ghost use Rattle.cert_checker.specs.DraftReading.{InHand, doc_at, draft_due};
 ghost use Rattle.cert_checker.specs.ModeReading.{Follows, IsInside, IsLeft, count_due, inside_due};
@@ -72,4 +72,113 @@ fn take_rest<'a>(
 {
     draft.take(alloc, set, mode, line, item)?;
     Ok(after_lines(draft))
+}
+
+/// Takes the line with the starts of a schedule of so many rounds.
+fn take_starts<'a>(
+    alloc: Global,
+    set: &'a ModeSet,
+    mode: u32,
+    rounds: u64,
+    line: u64,
+    item: &PlanLine<'_>,
+) -> Result<Next<'a>, Refused>
+    requires rules { KeepsRules set.now }
+    requires mode { mode < length set.now.modes }
+    requires some { 1 ≤ rounds }
+    ensures ok { IfOk result (λ next. Follows mode (doc_at set.now mode) line (λ rest. schedule (doc_at set.now mode) rounds (line_at line (meaning item.now) rest)) next) }
+    ensures err { IfErr result (λ e. (rest : Items) → Fails e (schedule (doc_at set.now mode) rounds (line_at line (meaning item.now) rest))) }
+{
+    let starts = starts_of(alloc, rounds, line, item)?;
+    let draft = Draft::begin(alloc, apps_of(set, mode), starts)?;
+    Ok(after_lines(draft))
+}
+
+/// Takes the line of a node in a tree.
+fn take_node<'a>(
+    mut walk: Walk,
+    mode: u32,
+    line: u64,
+    item: &PlanLine<'_>,
+) -> Result<Next<'a>, Refused>
+    requires kept { IsWalk walk }
+    requires fits { FitsLine (meaning item.now) }
+    ensures ok { IfOk result (λ next. (d : DocMode) → IsInside d (Inside.Node walk) → Follows mode d line (λ rest. inside_due mode d (Inside.Node walk) (line_at line (meaning item.now) rest)) next) }
+    ensures err { IfErr result (λ e. (d : DocMode) (rest : Items) → Fails e (inside_due mode d (Inside.Node walk) (line_at line (meaning item.now) rest))) }
+{
+    let rounds = walk.rounds();
+    if walk.take(mode, line, item)? {
+        return Ok(Next::Due(Inside::Node(walk)));
+    }
+    Ok(Next::Due(Inside::Count(rounds + 1)))
+}
+
+/// The walk through a tree for so many rounds, where a hyperperiod has room for them.
+fn begin_tree(alloc: Global, set: &ModeSet, mode: u32, rounds: u64) -> Result<Walk, Refused>
+    requires rules { KeepsRules set.now }
+    requires mode { mode < length set.now.modes }
+    requires some { 1 ≤ rounds }
+    requires most { rounds ≤ most_rounds (plain_at set.now mode) }
+    ensures inside { IfOk result (λ w. IsInside (doc_at set.now mode) (Inside.Node w)) }
+    ensures due { IfOk result (λ w. (o : ℕ) (at : Place) → walk_due o w at ≡ tree o (plain_at set.now mode) rounds at) }
+    ensures rounds { IfOk result (λ w. w.problem.rounds ≡ rounds) }
+    ensures err { IfErr result (λ e. e ≡ Refused.Memory) }
+{
+    let problem = Problem::make(alloc, set, mode, rounds)?;
+    let walk = Walk::begin(alloc, problem, rounds as usize)?;
+    Ok(walk)
+}
+
+/// Takes the line where this number of rounds is due.
+fn take_count<'a>(
+    alloc: Global,
+    set: &ModeSet,
+    mode: u32,
+    rounds: u64,
+    line: u64,
+    item: &PlanLine<'_>,
+) -> Result<Next<'a>, Refused>
+    requires rules { KeepsRules set.now }
+    requires mode { mode < length set.now.modes }
+    requires count { IsInside (doc_at set.now mode) (Inside.Count rounds) }
+    ensures ok { IfOk result (λ next. Follows mode (doc_at set.now mode) line (λ rest. count_due mode (doc_at set.now mode) rounds (line_at line (meaning item.now) rest)) next) }
+    ensures err { IfErr result (λ e. (rest : Items) → Fails e (count_due mode (doc_at set.now mode) rounds (line_at line (meaning item.now) rest))) }
+{
+    match item {
+        PlanLine::Schedule(number) => {
+            if *number != rounds {
+                return Err(Refused::MissingCount(mode, rounds));
+            }
+            Ok(Next::Due(Inside::Starts(rounds)))
+        }
+        PlanLine::Refute(number) => {
+            if *number != rounds {
+                return Err(Refused::MissingCount(mode, rounds));
+            }
+            if rounds > most_rounds(set, mode) {
+                return Err(Refused::Extra(line));
+            }
+            let walk = begin_tree(alloc, set, mode, rounds)?;
+            Ok(Next::Due(Inside::Node(walk)))
+        }
+        PlanLine::Absent => {
+            if rounds <= most_rounds(set, mode) {
+                return Err(Refused::MissingCount(mode, rounds));
+            }
+            Ok(Next::Plan(None))
+        }
+        PlanLine::Branch | PlanLine::Short | PlanLine::Full(_) | PlanLine::Cycle(_) => {
+            if rounds > 1 {
+                return Err(Refused::Extra(line));
+            }
+            Err(Refused::Grammar(line))
+        }
+        PlanLine::Head
+        | PlanLine::Mode(_)
+        | PlanLine::Start(_)
+        | PlanLine::Task(_, _)
+        | PlanLine::Message(_, _, _)
+        | PlanLine::Table(_, _)
+        | PlanLine::End => Err(Refused::Grammar(line)),
+    }
 }

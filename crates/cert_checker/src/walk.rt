@@ -50,6 +50,14 @@ impl Walk {
         })
     }
 
+    /// The number of rounds.
+    pub(crate) fn rounds(&self) -> u64
+        requires { IsWalk self.now }
+        ensures { result ≡ self.now.problem.rounds }
+    {
+        self.loads.len() as u64
+    }
+
     /// Puts a choice behind the others, which is among the alternatives, of which the greatest is `high`.
     fn put(&mut self, choice: i64, high: i64) -> Result<(), AllocError>
         requires kept { IsWalk self.old }
