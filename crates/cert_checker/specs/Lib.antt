@@ -3,3 +3,4 @@ pub mod Following
 pub mod TreeStack
 pub mod DraftReading
 pub mod ModeReading
+pub mod DocumentStages

@@ -182,3 +182,29 @@ fn take_count<'a>(
         | PlanLine::End => Err(Refused::Grammar(line)),
     }
 }
+
+impl<'a> Inside<'a> {
+    /// Takes a line inside the mode of this number.
+    pub(crate) fn take(
+        self,
+        alloc: Global,
+        set: &'a ModeSet,
+        mode: u32,
+        line: u64,
+        item: &PlanLine<'_>,
+    ) -> Result<Next<'a>, Refused>
+        requires rules { KeepsRules set.now }
+        requires mode { mode < length set.now.modes }
+        requires inside { IsInside (doc_at set.now mode) self }
+        requires fits { FitsLine (meaning item.now) }
+        ensures ok { IfOk result (λ next. Follows mode (doc_at set.now mode) line (λ rest. inside_due mode (doc_at set.now mode) self.entry (line_at line (meaning item.now) rest)) next) }
+        ensures err { IfErr result (λ e. (rest : Items) → Fails e (inside_due mode (doc_at set.now mode) self.entry (line_at line (meaning item.now) rest))) }
+    {
+        match self {
+            Inside::Count(rounds) => take_count(alloc, set, mode, rounds, line, item),
+            Inside::Node(walk) => take_node(walk, mode, line, item),
+            Inside::Starts(rounds) => take_starts(alloc, set, mode, rounds, line, item),
+            Inside::Rest(draft) => take_rest(alloc, set, mode, draft, line, item),
+        }
+    }
+}

@@ -8,6 +8,7 @@ mod leaves;
 mod loads;
 mod names;
 mod refused;
+mod stages;
 mod walk;
 
 pub use refused::Refused;

@@ -1,0 +1,135 @@
+//! A document, read line by line.
+
+ghost use Rattle.std.specs.Prelude.{◌≡◌, ◌+◌, ◌<◌, ◌≤◌, ◌∷◌, [], ◌++◌, Ok, Some, length, IfOk, IfErr, OnOk};
+ghost use Rattle.app_graph.specs.Validation.{KeepsRules};
+ghost use Rattle.sched_model.specs.PlainMode.{mode_at};
+ghost use Rattle.proof_tree.specs.Accepting.{IsRight, doc_modes};
+ghost use Rattle.proof_tree.specs.PlanLines.{meaning};
+ghost use Rattle.proof_tree.specs.Reading.{fixed, is_end, is_head, mode_line};
+ghost use Rattle.proof_tree.specs.TreeLines.{Items};
+ghost use Rattle.cert_checker.specs.DocumentStages.{BreaksSo, FrontRight, IsStage, Refutes, document_due};
+ghost use Rattle.cert_checker.specs.DraftReading.{doc_at};
+ghost use Rattle.cert_checker.specs.ModeReading.{IsInside, IsShaped};
+ghost use Rattle.cert_checker.specs.Refusals.{Fails, FitsLine};
+ghost use Rattle.cert_checker.specs.TreeStack.{behind_line, line_at};
+
+use crate::counts::{Inside, Next};
+use crate::entries::is_same;
+use crate::refused::Refused;
+use app_graph::ModeSet;
+use proof_tree::PlanLine;
+use sched_model::{Schedule, verify};
+use std::alloc::Global;
+
+/// What is due in a document.
+#[derive(Drop)]
+pub(crate) enum Stage<'a> {
+    /// The first line.
+    Head,
+    /// The next mode, or the end.
+    Mode,
+    /// A line inside a mode.
+    Within(Inside<'a>),
+    /// No line.
+    Nothing,
+}
+
+/// Takes the first line.
+fn take_head(line: u64, item: &PlanLine<'_>) -> Result<(), Refused>
+    ensures ok { OnOk result ((rest : Items) → fixed is_head (line_at line (meaning item.now) rest) ≡ Ok (tt, behind_line line rest)) }
+    ensures err { IfErr result (λ e. (rest : Items) → Fails e (fixed is_head (line_at line (meaning item.now) rest))) }
+{
+    match item {
+        PlanLine::Head => Ok(()),
+        PlanLine::Mode(_)
+        | PlanLine::Refute(_)
+        | PlanLine::Branch
+        | PlanLine::Short
+        | PlanLine::Full(_)
+        | PlanLine::Cycle(_)
+        | PlanLine::Schedule(_)
+        | PlanLine::Start(_)
+        | PlanLine::Task(_, _)
+        | PlanLine::Message(_, _, _)
+        | PlanLine::Table(_, _)
+        | PlanLine::Absent
+        | PlanLine::End => Err(Refused::Grammar(line)),
+    }
+}
+
+/// Takes the last line.
+fn take_end(line: u64, item: &PlanLine<'_>) -> Result<(), Refused>
+    ensures ok { OnOk result ((rest : Items) → fixed is_end (line_at line (meaning item.now) rest) ≡ Ok (tt, behind_line line rest)) }
+    ensures err { IfErr result (λ e. (rest : Items) → Fails e (fixed is_end (line_at line (meaning item.now) rest))) }
+{
+    match item {
+        PlanLine::End => Ok(()),
+        PlanLine::Head
+        | PlanLine::Mode(_)
+        | PlanLine::Refute(_)
+        | PlanLine::Branch
+        | PlanLine::Short
+        | PlanLine::Full(_)
+        | PlanLine::Cycle(_)
+        | PlanLine::Schedule(_)
+        | PlanLine::Start(_)
+        | PlanLine::Task(_, _)
+        | PlanLine::Message(_, _, _)
+        | PlanLine::Table(_, _)
+        | PlanLine::Absent => Err(Refused::Grammar(line)),
+    }
+}
+
+/// The name of the mode of this number.
+fn mode_name(set: &ModeSet, mode: u32) -> &[u8]
+    requires { mode < length set.now.modes }
+    ensures { result.now ≡ (mode_at set.now mode).name }
+{
+    set.modes.as_slice()[mode as usize].name.as_bytes()
+}
+
+/// Takes the line that begins the mode of this number.
+fn take_name(set: &ModeSet, mode: u32, line: u64, item: &PlanLine<'_>) -> Result<(), Refused>
+    requires { mode < length set.now.modes }
+    ensures ok { OnOk result ((rest : Items) → mode_line (doc_at set.now mode) (line_at line (meaning item.now) rest) (Some (meaning item.now)) ≡ Ok (tt, behind_line line rest)) }
+    ensures err { IfErr result (λ e. (rest : Items) → Fails e (mode_line (doc_at set.now mode) (line_at line (meaning item.now) rest) (Some (meaning item.now)))) }
+{
+    match item {
+        PlanLine::Mode(name) => {
+            if !is_same(name, mode_name(set, mode)) {
+                return Err(Refused::Names(line));
+            }
+            Ok(())
+        }
+        PlanLine::Head
+        | PlanLine::Refute(_)
+        | PlanLine::Branch
+        | PlanLine::Short
+        | PlanLine::Full(_)
+        | PlanLine::Cycle(_)
+        | PlanLine::Schedule(_)
+        | PlanLine::Start(_)
+        | PlanLine::Task(_, _)
+        | PlanLine::Message(_, _, _)
+        | PlanLine::Table(_, _)
+        | PlanLine::Absent
+        | PlanLine::End => Err(Refused::Grammar(line)),
+    }
+}
+
+/// Tests the plan of the mode of this number: a schedule is right.
+fn check_plan(set: &ModeSet, mode: u32, plan: &Option<Schedule>) -> Result<(), Refused>
+    requires rules { KeepsRules set.now }
+    requires mode { mode < length set.now.modes }
+    requires shape { IsShaped (doc_at set.now mode) plan.now }
+    ensures ok { OnOk result (IsRight (doc_at set.now mode) plan.now) }
+    ensures err { IfErr result (λ e. BreaksSo mode (doc_at set.now mode) plan.now e) }
+{
+    match plan {
+        None => Ok(()),
+        Some(schedule) => match verify(set, mode, schedule) {
+            Ok(()) => Ok(()),
+            Err(clause) => Err(Refused::Schedule(mode, clause)),
+        },
+    }
+}
