@@ -10,7 +10,7 @@ pub handed_on : {T E : Type 0} (r : Result T E) (x : E) (P : E → Type 0) → I
 handed_on (Ok v) x P h p = tt
 handed_on (Err e) x P h p = subst P (sym h) p
 
-some_weaker : {X : Type 0} (o : Option X) (P Q : X → Type 0) → ((x : X) → P x → Q x) → IfSome o P → IfSome o Q
+pub some_weaker : {X : Type 0} (o : Option X) (P Q : X → Type 0) → ((x : X) → P x → Q x) → IfSome o P → IfSome o Q
 some_weaker None P Q h p = tt
 some_weaker (Some x) P Q h p = h x p
 

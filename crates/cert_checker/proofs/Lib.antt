@@ -7,3 +7,4 @@ pub mod Lookups
 pub mod Errors
 pub mod Drafts
 pub mod Modes
+pub mod DocumentLaws

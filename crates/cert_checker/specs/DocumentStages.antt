@@ -51,3 +51,7 @@ Refutes set e read = IfSome (said e) (λ f. RefusedFrom 0 (doc_modes set) read.p
 abbrev pub BreaksSo : ℕ → DocMode → Option Schedule → Refused → Type 0
 BreaksSo o d None e = ⊥
 BreaksSo o d (Some s) e = (clause : ℕ) × BreaksFirst d.mode s clause × (e ≡ refused.Schedule o clause)
+
+-- reading stops here so, where a refusal is said
+abbrev pub Halts : Refused → Reading → Type 0
+Halts e read = IfSome (said e) (λ f. read ≡ record { plans = []; ended = Err f })

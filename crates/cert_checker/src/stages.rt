@@ -1,13 +1,13 @@
 //! A document, read line by line.
 
-ghost use Rattle.std.specs.Prelude.{◌≡◌, ◌+◌, ◌<◌, ◌≤◌, ◌∷◌, [], ◌++◌, Ok, Some, length, IfOk, IfErr, OnOk};
+ghost use Rattle.std.specs.Prelude.{◌≡◌, ◌+◌, ◌<◌, ◌≤◌, ◌∷◌, [], ◌++◌, List, Option, Ok, Some, length, IfOk, IfErr, OnOk, IsTrue};
 ghost use Rattle.app_graph.specs.Validation.{KeepsRules};
 ghost use Rattle.sched_model.specs.PlainMode.{mode_at};
 ghost use Rattle.proof_tree.specs.Accepting.{IsRight, doc_modes};
 ghost use Rattle.proof_tree.specs.PlanLines.{meaning};
 ghost use Rattle.proof_tree.specs.Reading.{fixed, is_end, is_head, mode_line};
 ghost use Rattle.proof_tree.specs.TreeLines.{Items};
-ghost use Rattle.cert_checker.specs.DocumentStages.{BreaksSo, FrontRight, IsStage, Refutes, document_due};
+ghost use Rattle.cert_checker.specs.DocumentStages.{BreaksSo, FrontRight, Halts, IsStage, Refutes, document_due, stage_due};
 ghost use Rattle.cert_checker.specs.DraftReading.{doc_at};
 ghost use Rattle.cert_checker.specs.ModeReading.{IsInside, IsShaped};
 ghost use Rattle.cert_checker.specs.Refusals.{Fails, FitsLine};
@@ -131,5 +131,106 @@ fn check_plan(set: &ModeSet, mode: u32, plan: &Option<Schedule>) -> Result<(), R
             Ok(()) => Ok(()),
             Err(clause) => Err(Refused::Schedule(mode, clause)),
         },
+    }
+}
+
+/// The number of a mode, out of those of the set.
+fn number_of(set: &ModeSet, mode: usize) -> u32
+    requires rules { KeepsRules set.now }
+    requires mode { mode ≤ length set.now.modes }
+    ensures { result ≡ mode }
+{
+    mode as u32
+}
+
+/// Takes a line where the mode of this number is due, or the end.
+fn take_mode<'a>(
+    set: &ModeSet,
+    mode: usize,
+    line: u64,
+    item: &PlanLine<'_>,
+) -> Result<Stage<'a>, Refused>
+    requires rules { KeepsRules set.now }
+    requires mode { mode ≤ length set.now.modes }
+    ensures stage { IfOk result (λ next. (plans : List (Option Schedule)) → length plans ≡ mode → IsStage set.now plans next) }
+    ensures goes { IfOk result (λ next. (rest : Items) → stage_due set.now mode Stage.Mode (line_at line (meaning item.now) rest) ≡ stage_due set.now mode next (behind_line line rest)) }
+    ensures err { IfErr result (λ e. (rest : Items) → Halts e (stage_due set.now mode Stage.Mode (line_at line (meaning item.now) rest))) }
+{
+    if mode < set.modes.as_slice().len() {
+        take_name(set, number_of(set, mode), line, item)?;
+        return Ok(Stage::Within(Inside::Count(1)));
+    }
+    take_end(line, item)?;
+    Ok(Stage::Nothing)
+}
+
+/// Takes a line inside the mode that comes after those whose plans were read.
+fn take_inside<'a>(
+    alloc: Global,
+    set: &'a ModeSet,
+    plans: &mut Vec<Option<Schedule>>,
+    inside: Inside<'a>,
+    line: u64,
+    item: &PlanLine<'_>,
+) -> Result<Stage<'a>, Refused>
+    requires rules { KeepsRules set.now }
+    requires stage { IsStage set.now plans.old.items (Stage.Within inside) }
+    requires right { FrontRight (doc_modes set.now) plans.old.items }
+    requires fits { FitsLine (meaning item.now) }
+    ensures stage { IfOk result (λ next. IsStage set.now plans.new.items next) }
+    ensures right { OnOk result (FrontRight (doc_modes set.now) plans.new.items) }
+    ensures goes { IfOk result (λ next. (rest : Items) → document_due set.now plans.old.items (Stage.Within inside.entry) (line_at line (meaning item.now) rest) ≡ document_due set.now plans.new.items next (behind_line line rest)) }
+    ensures err { IfErr result (λ e. (rest : Items) → Refutes set.now e (document_due set.now plans.old.items (Stage.Within inside.entry) (line_at line (meaning item.now) rest))) }
+{
+    let mode = number_of(set, plans.len());
+    match inside.take(alloc, set, mode, line, item)? {
+        Next::Due(inside) => Ok(Stage::Within(inside)),
+        Next::Plan(plan) => {
+            check_plan(set, mode, &plan)?;
+            plans.push(plan)?;
+            Ok(Stage::Mode)
+        }
+    }
+}
+
+impl<'a> Stage<'a> {
+    /// Takes a line, after those whose plans were read, and answers what is due next.
+    pub(crate) fn take(
+        self,
+        alloc: Global,
+        set: &'a ModeSet,
+        plans: &mut Vec<Option<Schedule>>,
+        line: u64,
+        item: &PlanLine<'_>,
+    ) -> Result<Stage<'a>, Refused>
+        requires rules { KeepsRules set.now }
+        requires stage { IsStage set.now plans.old.items self }
+        requires right { FrontRight (doc_modes set.now) plans.old.items }
+        requires fits { FitsLine (meaning item.now) }
+        ensures stage { IfOk result (λ next. IsStage set.now plans.new.items next) }
+        ensures right { OnOk result (FrontRight (doc_modes set.now) plans.new.items) }
+        ensures goes { IfOk result (λ next. (rest : Items) → document_due set.now plans.old.items self.entry (line_at line (meaning item.now) rest) ≡ document_due set.now plans.new.items next (behind_line line rest)) }
+        ensures err { IfErr result (λ e. (rest : Items) → Refutes set.now e (document_due set.now plans.old.items self.entry (line_at line (meaning item.now) rest))) }
+    {
+        match self {
+            Stage::Head => {
+                take_head(line, item)?;
+                Ok(Stage::Mode)
+            }
+            Stage::Mode => take_mode(set, plans.len(), line, item),
+            Stage::Within(inside) => take_inside(alloc, set, plans, inside, line, item),
+            Stage::Nothing => Err(Refused::Grammar(line)),
+        }
+    }
+
+    /// Whether no line is due any more.
+    pub(crate) fn is_end(&self) -> bool
+        ensures yes { IsTrue result → self.now ≡ Stage.Nothing }
+        ensures no { self.now ≡ Stage.Nothing → IsTrue result }
+    {
+        match self {
+            Stage::Nothing => true,
+            Stage::Head | Stage::Mode | Stage::Within(_) => false,
+        }
     }
 }
