@@ -1,9 +1,16 @@
 //! The lines that tell why a command is refused.
 
-ghost use Rattle.std.specs.Prelude.{◌≡◌, ◌++◌, IfOk};
+ghost use Rattle.std.specs.Prelude.{◌≡◌, ◌++◌, IfOk, OnOk};
+ghost use Rattle.ttw_text.specs.Numbers.{spelled};
+ghost use Rattle.sched_model.specs.PlainMode.{mode_at};
+ghost use Rattle.cert_checker.specs.Refusals as refusals;
+ghost use Rattle.ttw_program.specs.Checks as checks;
+ghost use Rattle.ttw_program.specs.Checks.{refusal_said};
 ghost use Rattle.ttw_program.specs.FaultLines as lines;
 ghost use Rattle.ttw_program.specs.FaultLines.{said};
 
+use app_graph::ModeSet;
+use cert_checker::Refused;
 use mode_file::FileFault;
 use std::alloc::{AllocError, Global};
 use ttw_text::Out;
@@ -14,6 +21,9 @@ pub(crate) const USAGE: &str =
 
 /// The line of a file that was not read.
 pub(crate) const READ_FAULT: &str = "read fault\n";
+
+/// The line of a plan that is longer than what is read of one.
+pub(crate) const LONG_PLAN: &str = "plan: too long\n";
 
 /// What is said of a refused mode file: some words, and the key or name that they speak of.
 fn said_of(fault: &FileFault) -> (&'static str, &[u8])
@@ -59,6 +69,62 @@ pub(crate) fn budget_line(alloc: Global, mode: &[u8], rounds: u64) -> Result<Out
     out.put(b" at ")?;
     out.number(rounds)?;
     out.put(b" rounds")?;
+    out.line_end()?;
+    Ok(out)
+}
+
+/// The name of the mode of this number.
+fn mode_name(set: &ModeSet, mode: u32) -> &[u8]
+    ensures { result.now ≡ (mode_at set.now mode).name }
+{
+    match set.modes.as_slice().get(mode as usize) {
+        Some(mode) => mode.name.as_bytes(),
+        None => &[],
+    }
+}
+
+/// Adds some words and a number.
+fn write_numbered(words: &[u8], number: u64, out: &mut Out) -> Result<(), AllocError>
+    ensures { OnOk result (out.new ≡ out.old ++ (words.now ++ spelled number)) }
+{
+    out.put(words)?;
+    out.number(number)
+}
+
+/// Adds what is said of a refused plan.
+fn write_refusal(set: &ModeSet, refused: Refused, out: &mut Out) -> Result<(), AllocError>
+    ensures { OnOk result (out.new ≡ out.old ++ refusal_said set.now (refusals.said refused)) }
+{
+    match refused {
+        Refused::Grammar(line) => write_numbered(b"grammar line ", line, out),
+        Refused::Names(line) => write_numbered(b"names line ", line, out),
+        Refused::Schedule(mode, clause) => {
+            out.put(b"schedule ")?;
+            out.put(mode_name(set, mode))?;
+            write_numbered(b" S", clause as u64, out)
+        }
+        Refused::BadLeaf(line) => write_numbered(b"bad leaf line ", line, out),
+        Refused::Extra(line) => write_numbered(b"extra line ", line, out),
+        Refused::MissingCount(mode, rounds) => {
+            out.put(b"missing ")?;
+            out.put(mode_name(set, mode))?;
+            write_numbered(b" ", rounds, out)
+        }
+        Refused::Unfinished(mode) => {
+            out.put(b"unfinished ")?;
+            out.put(mode_name(set, mode))
+        }
+        Refused::Memory => Ok(()),
+    }
+}
+
+/// The line of a refused plan.
+pub(crate) fn refusal_line(alloc: Global, set: &ModeSet, refused: Refused) -> Result<Out, AllocError>
+    ensures { IfOk result (λ out. out ≡ checks.refusal_line set.now (refusals.said refused)) }
+{
+    let mut out = Out::make(alloc);
+    out.put(b"plan: ")?;
+    write_refusal(set, refused, &mut out)?;
     out.line_end()?;
     Ok(out)
 }
