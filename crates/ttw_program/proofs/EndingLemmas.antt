@@ -8,8 +8,9 @@ use Rattle.ttw_program.specs.declared.status.Status.{Status}
 use Rattle.ttw_program.specs.declared.status.Status.TheVariants.{Done, NoSchedule, Usage, ModeFile, Plan, Budget, ReadFault, WriteFault}
 use Rattle.ttw_program.specs.FaultLines.{read_fault_line}
 use Rattle.ttw_program.specs.Endings.{SinkCounts, Counts, FlushedOnce, Ends, Finishes, AddsDue, ReadFaultDue}
-use Rattle.ttw_program.specs.Commands.{Command, plan, none}
+use Rattle.ttw_program.specs.Commands.{Command, plan, check, none}
 use Rattle.ttw_program.specs.Plans.{plan_status}
+use Rattle.ttw_program.specs.Checks.{CheckDue}
 use Rattle.ttw_program.specs.Due.{OfCommand, OfSet, PlanDue}
 use Rattle.app_graph.specs.declared.mode_set.ModeSet.{ModeSet}
 
@@ -42,9 +43,16 @@ of_file D k untold s t (bytes, d) = k bytes s t d
 of_file D k missing s t d = absurd d
 of_file D k (file bytes) s t d = k bytes s t d
 
+verdict_answered : (set : ModeSet) (bytes : List ℕ) (s : Status) (t : List ℕ) → CheckDue set bytes s t → IsAnswered s
+verdict_answered set bytes s t (inl (long, es, et)) = answered s Plan es refused_plan
+verdict_answered set bytes s t (inr (short, inl (plans, accepted, best, es, et))) = answered s Done es done
+verdict_answered set bytes s t (inr (short, inr (refusal, refuses, es, et))) = answered s Plan es refused_plan
+
 -- what is due of a command has the status of an answer
 pub due_answered : (command : Command) (told : List ℕ → Told) (s : Status) (t : List ℕ) → OfCommand command told s t → IsAnswered s
 due_answered (plan name most) told s t d = of_file (OfSet (PlanDue most)) (of_set (PlanDue most) (plan_answered most)) (told name) s t d
+due_answered (check name other) told s t d =
+    of_file (OfSet (λ set. OfFile (told other) (CheckDue set))) (of_set (λ set. OfFile (told other) (CheckDue set)) (λ set x y e. of_file (CheckDue set) (verdict_answered set) (told other) x y e)) (told name) s t d
 due_answered none told s t d = answered s Usage d.0 usage
 
 adds : (Due : Status → List ℕ → Type 0) (counts : Counts) (old new : Option (List ℕ)) (s : Status) (t : List ℕ) → IsAnswered s → Due s t → FlushedOnce counts.sink → new ≡ append_known old t → Ends Due counts old new s

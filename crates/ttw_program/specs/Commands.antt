@@ -6,6 +6,7 @@ use Rattle.ttw_text.specs.Numbers.{number_of}
 -- a command with the names of its files and its numbers, or none
 pub data Command : Type 0 where
   plan : List ℕ → ℕ → Command
+  check : List ℕ → List ℕ → Command
   none : Command
 
 -- plans for a mode file within a budget from 1 to 100,000
@@ -15,7 +16,7 @@ plan_within file (Some budget) = if nat_le 1 budget && nat_le budget 100000 then
 
 -- the command of three words
 abbrev pub of_three : List ℕ → List ℕ → List ℕ → Command
-of_three verb file last = if bytes_eq verb (codes "plan") then plan_within file (number_of last) else none
+of_three verb file last = if bytes_eq verb (codes "plan") then plan_within file (number_of last) else (if bytes_eq verb (codes "check") then check file last else none)
 
 -- the command of any words
 abbrev pub command : List (List ℕ) → Command

@@ -12,7 +12,8 @@ use Rattle.ttw_program.specs.declared.status.Status.{Status}
 use Rattle.ttw_program.specs.declared.status.Status.TheVariants.{Usage, ModeFile, Budget}
 use Rattle.ttw_program.specs.FaultLines.{usage_line, file_fault_line, budget_line}
 use Rattle.ttw_program.specs.Plans.{PlansAll, SpendsFirst, plan_status}
-use Rattle.ttw_program.specs.Commands.{Command, plan, none, command}
+use Rattle.ttw_program.specs.Checks.{CheckDue}
+use Rattle.ttw_program.specs.Commands.{Command, plan, check, none, command}
 
 -- what a command makes due of the bytes of a mode file: a refusal, or what it makes due of the set that they say
 abbrev pub OfSet : (ModeSet → Status → List ℕ → Type 0) → List ℕ → Status → List ℕ → Type 0
@@ -32,6 +33,7 @@ IsUsage status text = (status ≡ Usage) × (text ≡ usage_line)
 -- what is due of a command
 abbrev pub OfCommand : Command → (List ℕ → Told) → Status → List ℕ → Type 0
 OfCommand (plan file budget) told = OfFile (told file) (OfSet (PlanDue budget))
+OfCommand (check file plan) told = OfFile (told file) (OfSet (λ set. OfFile (told plan) (CheckDue set)))
 OfCommand none told = IsUsage
 
 -- what is due of the words, where this is told of files

@@ -4,4 +4,5 @@ pub mod Endings
 pub mod Commands
 pub mod Plans
 pub mod ModeFiles
+pub mod Checks
 pub mod Due

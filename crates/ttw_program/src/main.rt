@@ -2,6 +2,7 @@
 #![tactic(auto)]
 
 mod answers;
+mod checking;
 mod ending;
 mod fault_lines;
 mod mode_files;

@@ -8,6 +8,7 @@ ghost use Rattle.ttw_program.specs.Commands.{command, of_three, plan_within};
 ghost use Rattle.ttw_program.specs.Due.{Due, OfCommand, IsUsage};
 
 use crate::answers::{Answer, End};
+use crate::checking::answer_check;
 use crate::ending::finish;
 use crate::fault_lines::{READ_FAULT, USAGE};
 use crate::planning::answer_plan;
@@ -63,10 +64,12 @@ fn three_words<F: Files>(
     ensures counted { F.faults files.old ≤ F.faults files.new }
 {
     if verb == "plan" {
-        plan_words(alloc, file, last, files)
-    } else {
-        usage(alloc)
+        return plan_words(alloc, file, last, files);
     }
+    if verb == "check" {
+        return answer_check(alloc, file, last, files);
+    }
+    usage(alloc)
 }
 
 /// The answer to the words.
