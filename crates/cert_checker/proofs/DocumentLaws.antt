@@ -78,7 +78,7 @@ front_all [] (p ∷ plans) right l = absurd right
 front_all (d ∷ modes) (p ∷ plans) right l = (right.0, front_all modes plans right.1 (omega (arith, l)))
 
 
-length-doc_modes : (set : ModeSet) → length (doc_modes set) ≡ length set.modes
+pub length-doc_modes : (set : ModeSet) → length (doc_modes set) ≡ length set.modes
 length-doc_modes set = length-map set.modes (doc_mode set)
 
 doc_here : (set : ModeSet) (k : ℕ) → k < length set.modes → get_or (doc_modes set) k (doc_mode set (record { name = []; apps = [] })) ≡ doc_at set k

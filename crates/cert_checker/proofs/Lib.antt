@@ -8,3 +8,5 @@ pub mod Errors
 pub mod Drafts
 pub mod Modes
 pub mod DocumentLaws
+pub mod CutLines
+pub mod Unread

@@ -4,3 +4,4 @@ pub mod TreeStack
 pub mod DraftReading
 pub mod ModeReading
 pub mod DocumentStages
+pub mod DocumentLines
