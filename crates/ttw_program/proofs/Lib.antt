@@ -1,3 +1,4 @@
 pub mod Answering
 pub mod EndingLemmas
 pub mod PlanAnswers
+pub mod CheckAnswers

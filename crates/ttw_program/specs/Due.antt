@@ -33,7 +33,7 @@ IsUsage status text = (status ≡ Usage) × (text ≡ usage_line)
 -- what is due of a command
 abbrev pub OfCommand : Command → (List ℕ → Told) → Status → List ℕ → Type 0
 OfCommand (plan file budget) told = OfFile (told file) (OfSet (PlanDue budget))
-OfCommand (check file plan) told = OfFile (told file) (OfSet (λ set. OfFile (told plan) (CheckDue set)))
+OfCommand (check file other) told = OfFile (told file) (OfSet (λ set. OfFile (told other) (CheckDue set)))
 OfCommand none told = IsUsage
 
 -- what is due of the words, where this is told of files

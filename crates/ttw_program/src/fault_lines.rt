@@ -112,14 +112,19 @@ fn write_refusal(set: &ModeSet, refused: Refused, out: &mut Out) -> Result<(), A
         }
         Refused::Unfinished(mode) => {
             out.put(b"unfinished ")?;
-            out.put(mode_name(set, mode))
+            out.put(mode_name(set, mode))?;
+            Ok(())
         }
         Refused::Memory => Ok(()),
     }
 }
 
 /// The line of a refused plan.
-pub(crate) fn refusal_line(alloc: Global, set: &ModeSet, refused: Refused) -> Result<Out, AllocError>
+pub(crate) fn refusal_line(
+    alloc: Global,
+    set: &ModeSet,
+    refused: Refused,
+) -> Result<Out, AllocError>
     ensures { IfOk result (λ out. out ≡ checks.refusal_line set.now (refusals.said refused)) }
 {
     let mut out = Out::make(alloc);

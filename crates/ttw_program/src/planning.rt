@@ -91,7 +91,13 @@ fn document(
 }
 
 /// The answer that the mode's search exceeds the budget at so many rounds.
-fn exceeded(alloc: Global, set: &ModeSet, budget: u64, mode: u32, rounds: u64) -> Result<Answer, AllocError>
+fn exceeded(
+    alloc: Global,
+    set: &ModeSet,
+    budget: u64,
+    mode: u32,
+    rounds: u64,
+) -> Result<Answer, AllocError>
     requires { SpendsFirst set.now budget mode rounds }
     ensures { IfOk result (λ a. PlanDue budget set.now a.status a.text) }
 {

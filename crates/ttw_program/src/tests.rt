@@ -55,7 +55,8 @@ fn plans(alloc: Global, file: &str, budget: &str, wanted: (Status, &str)) -> Res
 
 #[test]
 fn blink_plan(rt: HostRuntime) -> Result<(), Fail> {
-    let plan = "ttw 1\nmode run\nrefute 1\ncycle\nrefute 2\ncycle\nschedule 3\nstart 0 20 60\ntask blink 0\ntable 1\ntable 2\ntable 3\nend\n";
+    let plan =
+        "ttw 1\nmode run\nrefute 1\ncycle\nrefute 2\ncycle\nschedule 3\nstart 0 20 60\ntask blink 0\ntable 1\ntable 2\ntable 3\nend\n";
     assert!(rt; plans(rt.alloc(), BLINK, "10", (Status::Done, plan))?);
     assert!(rt; plans(rt.alloc(), BLINK, "3", (Status::Done, plan))?);
     let exceeded = "budget: mode run at 3 rounds\n";
@@ -73,7 +74,14 @@ fn wcet_above_deadline(rt: HostRuntime) -> Result<(), Fail> {
         plan.push_str("\ncycle\n")?;
     }
     plan.push_str("none\nend\n")?;
-    assert!(rt; plans(rt.alloc(), text.as_str(), "10", (Status::NoSchedule, plan.as_str()))?);
+    assert!(rt;
+        plans(
+            rt.alloc(),
+            text.as_str(),
+            "10",
+            (Status::NoSchedule, plan.as_str())
+        )?
+    );
     Ok(())
 }
 
@@ -150,7 +158,8 @@ const LOOP: &str =
 
 #[test]
 fn loop_plan(rt: HostRuntime) -> Result<(), Fail> {
-    let plan = "ttw 1\nmode run\nrefute 1\nbranch\ncycle\nbranch\ncycle\ncycle\ncycle\ncycle\nschedule 2\nstart 0 23\ntask sense 21\ntask ctrl 43\ntask act 120\nmessage m1 23 43\nmessage m2 48 120\ntable 1 m2\ntable 2 m1\nend\n";
+    let plan =
+        "ttw 1\nmode run\nrefute 1\nbranch\ncycle\nbranch\ncycle\ncycle\ncycle\ncycle\nschedule 2\nstart 0 23\ntask sense 21\ntask ctrl 43\ntask act 120\nmessage m1 23 43\nmessage m2 48 120\ntable 1 m2\ntable 2 m1\nend\n";
     assert!(rt; plans(rt.alloc(), LOOP, "13", (Status::Done, plan))?);
     Ok(())
 }
@@ -171,7 +180,8 @@ const SHARE: &str =
 
 #[test]
 fn shared_node_refuted(rt: HostRuntime) -> Result<(), Fail> {
-    let plan = "ttw 1\nmode run\nrefute 1\nbranch\nrefute 2\nbranch\nrefute 3\nbranch\nrefute 4\nbranch\nnone\nend\n";
+    let plan =
+        "ttw 1\nmode run\nrefute 1\nbranch\nrefute 2\nbranch\nrefute 3\nbranch\nrefute 4\nbranch\nnone\nend\n";
     assert!(rt; plans(rt.alloc(), SHARE, "4", (Status::NoSchedule, plan))?);
     Ok(())
 }
@@ -186,8 +196,7 @@ fn shared_node_budget(rt: HostRuntime) -> Result<(), Fail> {
 #[test]
 fn shared_node_plan(rt: HostRuntime) -> Result<(), Fail> {
     let file = SHARE.replace(rt.alloc(), "wcet = 2", "wcet = 1")?;
-    let plan =
-        "ttw 1\nmode run\nschedule 1\nstart 0\ntask x 3\ntask y 0\ntable 1\nend\n";
+    let plan = "ttw 1\nmode run\nschedule 1\nstart 0\ntask x 3\ntask y 0\ntable 1\nend\n";
     assert!(rt; plans(rt.alloc(), file.as_str(), "3", (Status::Done, plan))?);
     let exceeded = "budget: mode run at 1 rounds\n";
     assert!(rt; plans(rt.alloc(), file.as_str(), "2", (Status::Budget, exceeded))?);
@@ -196,8 +205,12 @@ fn shared_node_plan(rt: HostRuntime) -> Result<(), Fail> {
 
 /// Three applications, each of two tasks on nodes of their own with one message between them, for rounds of one slot.
 fn three_messages(alloc: Global) -> Result<String, Fail> {
-    let mut file = "slots = 1\nround = 50\ngap = 100\nhost = \"n0\"\nnodes = [\"n0\", \"n1\", \"n2\", \"n3\", \"n4\", \"n5\"]\n[[mode]]\nname = \"run\"\n".to_string(alloc)?;
-    let app = "[[mode.app]]\nname = \"aX\"\nperiod = 100\ndeadline = 100\n[[mode.app.task]]\nname = \"sX\"\nnode = \"nX\"\nwcet = 1\n[[mode.app.task]]\nname = \"cX\"\nnode = \"nY\"\nwcet = 1\n[[mode.app.message]]\nname = \"mX\"\nfrom = [\"sX\"]\nto = [\"cX\"]\n";
+    let mut file =
+        "slots = 1\nround = 50\ngap = 100\nhost = \"n0\"\nnodes = [\"n0\", \"n1\", \"n2\", \"n3\", \"n4\", \"n5\"]\n[[mode]]\nname = \"run\"\n".to_string(
+            alloc,
+        )?;
+    let app =
+        "[[mode.app]]\nname = \"aX\"\nperiod = 100\ndeadline = 100\n[[mode.app.task]]\nname = \"sX\"\nnode = \"nX\"\nwcet = 1\n[[mode.app.task]]\nname = \"cX\"\nnode = \"nY\"\nwcet = 1\n[[mode.app.message]]\nname = \"mX\"\nfrom = [\"sX\"]\nto = [\"cX\"]\n";
     for (first, second) in [("0", "1"), ("2", "3"), ("4", "5")] {
         let named = app.replace(alloc, "X", first)?;
         let placed = named.as_str().replace(alloc, "Y", second)?;
@@ -217,7 +230,9 @@ fn slots_short(rt: HostRuntime) -> Result<(), Fail> {
 #[test]
 fn second_mode_exceeds_the_budget(rt: HostRuntime) -> Result<(), Fail> {
     let mut file = LOOP.to_string(rt.alloc())?;
-    file.push_str("[[mode]]\nname = \"idle\"\n[[mode.app]]\nname = \"lamp\"\nperiod = 1300\ndeadline = 99\n[[mode.app.task]]\nname = \"blink\"\nnode = \"n2\"\nwcet = 100\n")?;
+    file.push_str(
+        "[[mode]]\nname = \"idle\"\n[[mode.app]]\nname = \"lamp\"\nperiod = 1300\ndeadline = 99\n[[mode.app.task]]\nname = \"blink\"\nnode = \"n2\"\nwcet = 100\n",
+    )?;
     let exceeded = "budget: mode idle at 14 rounds\n";
     assert!(rt; plans(rt.alloc(), file.as_str(), "13", (Status::Budget, exceeded))?);
     Ok(())

@@ -1,0 +1,62 @@
+-- The lines of modes, and the answer to a plan
+use Rattle.std.proofs.Common.{◌≡◌, ℕ, ◌+◌, ◌<◌, ◌≤◌, List, [], ◌∷◌, ◌++◌, length, get_or, take, refl, sym, ◌∙◌, ap, subst, arith, inl, append_assoc, append-nil}
+use Rattle.std.specs.Prelude.{Result, Ok, Err, IfOk}
+use Rattle.std.specs.List.{flat_map}
+use Rattle.std.proofs.lemmas.List.{take_more, take_all}
+use Rattle.std.proofs.lemmas.Grind.{flat_map-append}
+use Rattle.ttw_io.specs.Outside.{Told, untold, missing, file, IsWhole, IsLonger, OfFile}
+use Rattle.app_graph.specs.declared.mode_set.ModeSet.{ModeSet}
+use Rattle.ttw_program.specs.declared.answers.Answer.{Answer}
+use Rattle.ttw_program.specs.declared.answers.End.{End}
+use Rattle.ttw_program.specs.declared.mode_files.ModeFile.TheVariants.{Set}
+use Rattle.ttw_program.specs.declared.status.Status.{Status}
+use Rattle.ttw_program.specs.declared.status.Status.TheVariants.{Plan}
+use Rattle.ttw_program.specs.Commands.{none, command}
+use Rattle.ttw_program.specs.Checks.{CheckDue, long_plan_line, most_plan_bytes}
+use Rattle.ttw_program.specs.ModeFiles.{SaysOf}
+use Rattle.ttw_program.specs.Due.{OfSet}
+use Rattle.ttw_program.proofs.Answering.{of_said}
+
+-- one item's text more
+pub text_more : {X : Type 0} (f : X → List ℕ) (xs : List X) (i : ℕ) (x : X) (start old new : List ℕ) → i < length xs → x ≡ get_or xs i x
+    → old ≡ start ++ flat_map f (take i xs) → new ≡ old ++ f x → new ≡ start ++ flat_map f (take (i + 1) xs)
+text_more {X} f xs i x start old new l e h s =
+    s ∙ ap (λ (y : List ℕ). y ++ f x) h ∙ append_assoc start (flat_map f (take i xs)) (f x)
+    ∙ ap (λ (y : List ℕ). start ++ (flat_map f (take i xs) ++ y)) (sym (append-nil (f x)))
+    ∙ ap (λ (y : List ℕ). start ++ y) (sym (flat_map-append f (take i xs) (x ∷ [])))
+    ∙ ap (λ (y : X). start ++ flat_map f (take i xs ++ y ∷ [])) e
+    ∙ ap (λ (y : List X). start ++ flat_map f y) (sym (take_more xs i x l))
+
+-- the text of all
+pub text_whole : {X : Type 0} (f : X → List ℕ) (xs : List X) (n : ℕ) (start new : List ℕ) → length xs ≤ n → new ≡ start ++ flat_map f (take n xs) → new ≡ start ++ flat_map f xs
+text_whole {X} f xs n start new l h = h ∙ ap (λ (y : List X). start ++ flat_map f y) (take_all n xs l)
+
+-- one text after another
+pub two_texts : (out once twice words name same : List ℕ) → once ≡ out ++ words → twice ≡ once ++ name → name ≡ same → twice ≡ out ++ (words ++ same)
+two_texts out once twice words name same e1 e2 e = e2 ∙ ap (λ (t : List ℕ). t ++ name) e1 ∙ append_assoc out words name ∙ ap (λ (t : List ℕ). out ++ (words ++ t)) e
+
+-- ---- the plan that a file has
+
+-- a plan that is longer than what is read of one
+pub long_plan : (told : Told) (set : ModeSet) (bytes : List ℕ) (s : Status) (t : List ℕ) → IsLonger told most_plan_bytes bytes → s ≡ Plan → t ≡ long_plan_line → OfFile told (CheckDue set) s t
+long_plan untold set bytes s t l es et = (bytes, inl (omega (arith, l), es, et))
+long_plan missing set bytes s t l es et = absurd l
+long_plan (file all) set bytes s t l es et = inl (l.0, es, et)
+
+-- what is due of the bytes is due of the file that has them
+pub whole_plan : (told : Told) (set : ModeSet) (bytes : List ℕ) (s : Status) (t : List ℕ) → IsWhole told bytes → CheckDue set bytes s t → OfFile told (CheckDue set) s t
+whole_plan untold set bytes s t w d = (bytes, d)
+whole_plan missing set bytes s t w d = absurd w
+whole_plan (file all) set bytes s t w d = subst (λ (b : List ℕ). CheckDue set b s t) (sym w) d
+
+-- what is due of the set that a file says, where the answer is one
+pub answer_said : (told : Told) (set : ModeSet) (D : ModeSet → Status → List ℕ → Type 0) (answer : Result Answer End) → SaysOf told (Set set) → IfOk answer (λ a. D set a.status a.text) → IfOk answer (λ a. OfFile told (OfSet D) a.status a.text)
+answer_said told set D (Ok a) says d = of_said told set D a.status a.text says d
+answer_said told set D (Err e) says d = tt
+
+-- fewer than three words are no command
+pub few_words : (words : List (List ℕ)) → length words < 3 → command words ≡ none
+few_words [] l = refl
+few_words (a ∷ []) l = refl
+few_words (a ∷ b ∷ []) l = refl
+few_words (a ∷ b ∷ c ∷ words) l = absurd (omega (arith, l))
