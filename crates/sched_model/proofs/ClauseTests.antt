@@ -1,12 +1,11 @@
 -- The tests of single tasks and messages
-use Rattle.std.proofs.Common.{◌≡◌, ℕ, ◌+◌, ◌<◌, ◌≤◌, Bool, true, false, leb, ltb, ◌↔◌, IsTrue, length, Contains, refl, sym, subst, arith, ap, ◌∙◌, ℤ, pos, ◌+ℤ◌, ◌≤ℤ◌, ◌<ℤ◌}
-use Rattle.std.proofs.lemmas.Int.{ints}
-use Rattle.std.proofs.lemmas.Bool.{both_ways, leb-true, le-leb, ltb-true, lt-ltb}
+use Rattle.std.proofs.Common.{◌≡◌, ℕ, ◌+◌, ◌<◌, ◌≤◌, Bool, true, false, leb, ltb, ◌↔◌, IsTrue, length, Contains, arith, ap, pos, ◌+ℤ◌, ◌≤ℤ◌}
+use Rattle.std.proofs.lemmas.Bool.{both_ways, ltb-true, lt-ltb}
 use Rattle.sched_model.specs.declared.schedule.Schedule.{Schedule}
 use Rattle.sched_model.specs.Numbers.{has}
-use Rattle.sched_model.specs.PlainMode.{PlainMode, hyper, task_at, message_at}
-use Rattle.sched_model.specs.TaskGraph.{first, last, reaches, Reaches}
-use Rattle.sched_model.specs.Rounds.{round_start, task_start, opens, closes}
+use Rattle.sched_model.specs.PlainMode.{PlainMode, task_at, message_at}
+use Rattle.sched_model.specs.TaskGraph.{first, last, Reaches}
+use Rattle.sched_model.specs.Rounds.{task_start, opens, closes}
 use Rattle.sched_model.specs.RightSchedule.{OffsetFits, MessageFits, ChainFits}
 use Rattle.sched_model.specs.Judged.{SenderFits, TakerFits, ChainsTo}
 use Rattle.sched_model.specs.ValidMode.{IsValid}

@@ -1,5 +1,5 @@
 -- Marks of the windows that rounds serve, one round after another
-use Rattle.std.proofs.Common.{◌≡◌, ℕ, ◌+◌, ◌*◌, ◌%◌, ◌^◌, ◌<◌, ◌≤◌, Bool, true, false, eqb, ◌||◌, ◌↔◌, IsTrue, refl, sym, ◌∙◌, ap, subst, arith, ⊎_elim, bit_or}
+use Rattle.std.proofs.Common.{◌≡◌, ℕ, ◌+◌, ◌*◌, ◌%◌, ◌^◌, ◌<◌, ◌≤◌, Bool, true, false, eqb, ◌||◌, ◌↔◌, IsTrue, sym, ◌∙◌, ap, subst, arith, ⊎_elim, bit_or}
 use Rattle.std.proofs.lemmas.Bool.{cases_lt, both_ways, eqb-true, eq-eqb, or_cases, or_left, or_right}
 use Rattle.app_graph.proofs.Marks.{mask_none}
 use Rattle.sched_model.specs.declared.schedule.Schedule.{Schedule}

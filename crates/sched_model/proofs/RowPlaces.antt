@@ -1,5 +1,5 @@
 -- Tasks and messages with their applications, and the plain mode
-use Rattle.std.proofs.Common.{◌≡◌, ℕ, zero, suc, ◌+◌, ◌<◌, ◌≤◌, cond, eqb, true, false, List, [], ◌∷◌, ◌++◌, length, get_or, drop, map, refl, sym, ◌∙◌, ap, subst, arith, pos, unsigned_abs, ⊎_elim, length-append, drop-cons, All, Contains}
+use Rattle.std.proofs.Common.{◌≡◌, ℕ, suc, ◌+◌, ◌<◌, ◌≤◌, cond, eqb, true, false, List, [], ◌∷◌, ◌++◌, length, get_or, drop, map, refl, sym, ◌∙◌, ap, subst, arith, unsigned_abs, ⊎_elim, length-append, drop-cons, All, Contains}
 use Rattle.std.proofs.lemmas.Bool.{cases_Bool, cond-true, cond-false}
 use Rattle.std.proofs.lemmas.List.{get_or-map, length-map, map-append}
 use Rattle.app_graph.specs.declared.mode_set.App.{App}
@@ -7,7 +7,7 @@ use Rattle.app_graph.specs.declared.mode_set.Task.{Task}
 use Rattle.app_graph.specs.declared.mode_set.Message.{Message}
 use Rattle.app_graph.specs.declared.mode_set.ModeSet.{ModeSet}
 use Rattle.app_graph.specs.Validation.{KeepsRules}
-use Rattle.sched_model.specs.PlainMode.{PlainMode, PlainTask, PlainMessage, no_task, no_message, task_at, message_at, TaskOfApp, tasks_of, place_of, plain_task, plain_messages, mode_at, plain_at}
+use Rattle.sched_model.specs.PlainMode.{PlainTask, PlainMessage, no_task, no_message, task_at, message_at, TaskOfApp, tasks_of, place_of, plain_task, plain_messages, mode_at, plain_at}
 use Rattle.sched_model.specs.Rows.{TaskIn, MessageIn, tasks_in, messages_in, no_app, task_in, message_in, row_of, place_in, index_of, plain_message, ShowsTask, ShowsMessage}
 use Rattle.sched_model.proofs.Graph.{message_edge}
 use Rattle.sched_model.proofs.PlainPlaces.{nothing}

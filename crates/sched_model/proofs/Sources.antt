@@ -1,13 +1,13 @@
 -- The tasks that reach another one, as sets
-use Rattle.std.proofs.Common.{◌≡◌, ℕ, zero, suc, ◌+◌, ◌*◌, ◌%◌, ◌^◌, ◌<◌, ◌≤◌, Bool, true, false, cond, not, eqb, ◌&&◌, ◌||◌, List, [], ◌∷◌, ◌++◌, length, map, refl, sym, ◌∙◌, ap, subst, arith, bit_and, bit_or}
-use Rattle.std.specs.List.{fold, list_any}
+use Rattle.std.proofs.Common.{◌≡◌, ℕ, suc, ◌+◌, ◌*◌, ◌%◌, ◌^◌, ◌<◌, ◌≤◌, Bool, true, false, cond, not, eqb, ◌&&◌, ◌||◌, List, [], ◌∷◌, length, map, refl, sym, ◌∙◌, ap, arith, bit_and, bit_or}
+use Rattle.std.specs.List.{list_any}
 use Rattle.app_graph.specs.Masks.{mask_of}
 use Rattle.app_graph.proofs.Marks.{and_masks, or_masks, mask_of-zero, mask_same}
 use Rattle.sched_model.specs.Numbers.{below, has}
 use Rattle.sched_model.specs.PlainMode.{PlainMode, PlainMessage}
-use Rattle.sched_model.specs.TaskGraph.{edge, reaches_in, reaches, first, last}
+use Rattle.sched_model.specs.TaskGraph.{reaches_in, first, last}
 use Rattle.sched_model.specs.declared.links.Link.{Link}
-use Rattle.sched_model.specs.Links.{in_set, set_of, link_of, back_from, sources_in}
+use Rattle.sched_model.specs.Links.{in_set, set_of, link_of, back_from}
 use Rattle.sched_model.proofs.TaskSets.{or_false, and_true, and_false, single, is_in}
 
 -- ---- tests

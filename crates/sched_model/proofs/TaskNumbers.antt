@@ -1,5 +1,5 @@
 -- The numbers of tasks over the file: those of a mode follow each other, and those of the next mode follow them
-use Rattle.std.proofs.Common.{◌≡◌, ℕ, zero, suc, ◌+◌, ◌<◌, ◌≤◌, List, [], ◌∷◌, ◌++◌, length, get_or, map, None, refl, sym, ◌∙◌, ap, subst, arith, ⊎_elim, length-append}
+use Rattle.std.proofs.Common.{◌≡◌, ℕ, zero, suc, ◌+◌, ◌<◌, ◌≤◌, List, [], ◌∷◌, length, get_or, map, None, refl, sym, ◌∙◌, ap, subst, arith, ⊎_elim, length-append}
 use Rattle.std.specs.List.{sum_by}
 use Rattle.std.proofs.lemmas.Bool.{cases_lt, leb-true}
 use Rattle.std.proofs.lemmas.List.{get_or-map, length-map}
@@ -11,13 +11,12 @@ use Rattle.app_graph.specs.declared.raw.RawSet.{RawSet}
 use Rattle.app_graph.specs.ValueRules.{set_rules, value_rules, at_most}
 use Rattle.app_graph.proofs.Kept.{all_kept, unless_kept}
 use Rattle.app_graph.specs.declared.raw.RawMode.{RawMode}
-use Rattle.app_graph.specs.declared.mode_set.App.{App}
 use Rattle.app_graph.specs.declared.mode_set.Mode.{Mode}
 use Rattle.app_graph.specs.declared.mode_set.Task.{Task}
 use Rattle.app_graph.specs.declared.mode_set.ModeSet.{ModeSet}
-use Rattle.app_graph.specs.Numbering.{tasks_from, apps_from, app_of, task_count, message_count, mode_of, modes_from, set_of}
+use Rattle.app_graph.specs.Numbering.{tasks_from, apps_from, app_of, task_count, message_count, modes_from, set_of}
 use Rattle.app_graph.specs.Validation.{KeepsRules}
-use Rattle.sched_model.specs.PlainMode.{PlainTask, no_task, task_at, message_at, TaskOfApp, tasks_of, plain_task, mode_at, plain_at}
+use Rattle.sched_model.specs.PlainMode.{PlainTask, no_task, task_at, TaskOfApp, tasks_of, plain_task, plain_at}
 use Rattle.sched_model.specs.Numbered.{IsTaskOf, IsMessageOf}
 use Rattle.sched_model.proofs.KeptSets.{mode_at_valid}
 use Rattle.sched_model.proofs.PlainPlaces.{nothing, length-tasks, task_there, task_found}

@@ -1,13 +1,12 @@
 -- The mode sets and schedules of the tests
-use Rattle.std.proofs.Common.{◌≡◌, ℕ, zero, suc, ◌<◌, ◌≤◌, codes, List, [], ◌∷◌, length, map, get_or, All, Contains, refl, sym, ◌∙◌, ap, subst, arith, ℤ, pos}
-use Rattle.std.proofs.lemmas.List.Elements.{All-from_recursion, Contains-get_or}
+use Rattle.std.proofs.Common.{◌≡◌, ℕ, zero, suc, ◌<◌, codes, List, [], ◌∷◌, length, get_or, All, Contains, refl, sym, ◌∙◌, subst, arith, ℤ, pos}
+use Rattle.std.proofs.lemmas.List.Elements.{All-from_recursion}
 use Rattle.app_graph.specs.declared.raw.RawSet.{RawSet}
 use Rattle.app_graph.specs.declared.mode_set.ModeSet.{ModeSet}
 use Rattle.app_graph.specs.Hyperperiod.{hyperperiod}
 use Rattle.sched_model.specs.declared.schedule.Schedule.{Schedule}
-use Rattle.sched_model.specs.PlainMode.{PlainMode, plain_at}
-use Rattle.sched_model.specs.RightSchedule.{HasShape, IsMessage}
-use Rattle.sched_model.specs.TimeLimits.{IsTime, HasTimes}
+use Rattle.sched_model.specs.PlainMode.{plain_at}
+use Rattle.sched_model.specs.RightSchedule.{HasShape}
 use Rattle.sched_model.specs.TestModes.{loop_with, shared_with, IsLoop, IsShared, Planned}
 
 -- the files that they are

@@ -1,5 +1,5 @@
 -- The first broken clause, where the clauses before it hold
-use Rattle.std.proofs.Common.{ℕ, ◌<◌, length, arith, Bool, true, false, ◌≡◌, ◌↔◌, IsTrue}
+use Rattle.std.proofs.Common.{ℕ, ◌<◌, arith, Bool, false, ◌≡◌, ◌↔◌, IsTrue}
 use Rattle.sched_model.specs.declared.schedule.Schedule.{Schedule}
 use Rattle.sched_model.specs.PlainMode.{PlainMode}
 use Rattle.sched_model.specs.FirstBroken.{Keeps, BreaksFirst}

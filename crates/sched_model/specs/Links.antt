@@ -1,5 +1,5 @@
 -- The graph of a mode as sets of tasks, one bit for each place
-use Rattle.std.specs.Prelude.{ℕ, ◌*◌, ◌%◌, ◌^◌, Bool, not, List, [], ◌∷◌, length, if◌then◌else◌, nat_eq, fold, bit_and, bit_or}
+use Rattle.std.specs.Prelude.{ℕ, ◌*◌, ◌%◌, ◌^◌, Bool, not, List, length, if◌then◌else◌, nat_eq, fold, bit_and, bit_or}
 use Rattle.app_graph.specs.Masks.{mask_of}
 use Rattle.sched_model.specs.declared.links.Link.{Link}
 use Rattle.sched_model.specs.Numbers.{below, has}

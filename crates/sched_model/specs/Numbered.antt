@@ -1,7 +1,7 @@
 -- Tasks and messages by their numbers over the file
-use Rattle.std.specs.Prelude.{◌≡◌, ℕ, ◌<◌, ◌≤◌, length}
+use Rattle.std.specs.Prelude.{◌≡◌, ℕ, ◌<◌, length}
 use Rattle.app_graph.specs.declared.mode_set.ModeSet.{ModeSet}
-use Rattle.sched_model.specs.PlainMode.{PlainMode, plain_at, task_at, message_at}
+use Rattle.sched_model.specs.PlainMode.{plain_at, task_at, message_at}
 
 -- the task at place a of the mode of this number has the number
 pub record IsTaskOf (set : ModeSet) (i a number : ℕ) : Type 0 where

@@ -1,5 +1,5 @@
 -- Tasks and messages with their applications, by their places in a mode
-use Rattle.std.specs.Prelude.{◌≡◌, ℕ, zero, suc, ◌≤◌, cond, nat_eq, List, [], ◌∷◌, ◌++◌, length, map, slice_index_or, pos, unsigned_abs}
+use Rattle.std.specs.Prelude.{◌≡◌, ℕ, suc, ◌≤◌, cond, nat_eq, List, [], ◌∷◌, ◌++◌, map, slice_index_or, pos, unsigned_abs}
 use Rattle.app_graph.specs.declared.mode_set.App.{App}
 use Rattle.app_graph.specs.declared.mode_set.Task.{Task}
 use Rattle.app_graph.specs.declared.mode_set.Message.{Message}

@@ -1,7 +1,6 @@
-use Rattle.std.proofs.Common.{◌≡◌, ℕ, true, length, sym, ◌∙◌, refl}
+use Rattle.std.proofs.Common.{length, sym, ◌∙◌, refl}
 use Rattle.std.proofs.lemmas.Bool.{both_ways}
 use Rattle.sched_model.specs.PlainMode.{plain_at}
-use Rattle.sched_model.specs.RightSchedule.{ChainFits}
 use Rattle.sched_model.specs.TaskGraph.{first, reaches}
 use Rattle.sched_model.proofs.Sources.{first_is}
 use Rattle.sched_model.proofs.TaskSets.{is_in}

@@ -1,4 +1,4 @@
-use Rattle.std.proofs.Common.{◌≡◌, ◌<◌, ℕ, true, length, arith, refl}
+use Rattle.std.proofs.Common.{◌≡◌, ◌<◌, true, length, arith, refl}
 use Rattle.sched_model.specs.PlainMode.{plain_at}
 use Rattle.sched_model.specs.Judged.{ChainsTo}
 use Rattle.sched_model.specs.TaskGraph.{last}

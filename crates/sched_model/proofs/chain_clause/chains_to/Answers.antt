@@ -1,5 +1,4 @@
-use Rattle.std.proofs.Common.{ℕ, sym, ◌∙◌, ap, map, List}
-use Rattle.sched_model.specs.declared.links.Link.{Link}
+use Rattle.std.proofs.Common.{ℕ, sym, ◌∙◌, ap, map}
 use Rattle.sched_model.specs.PlainMode.{plain_at}
 use Rattle.sched_model.specs.Links.{link_of}
 use Rattle.sched_model.proofs.chain_clause.chains_to.Goals as goal

@@ -1,9 +1,9 @@
-use Rattle.std.proofs.Common.{ℕ, List, length, map, arith, sym, ◌∙◌, ap}
+use Rattle.std.proofs.Common.{ℕ, List, length, map, arith, ◌∙◌, ap}
 use Rattle.app_graph.specs.declared.mode_set.Message.{Message}
 use Rattle.sched_model.specs.declared.links.Link.{Link}
 use Rattle.sched_model.specs.PlainMode.{plain_at, message_at}
 use Rattle.sched_model.specs.Rows.{tasks_in, place_in}
-use Rattle.sched_model.specs.Links.{set_of, link_of}
+use Rattle.sched_model.specs.Links.{set_of}
 use Rattle.sched_model.proofs.RowPlaces.{how_many, few_tasks, tasks_are, from_known, to_known, message_shown}
 use Rattle.sched_model.proofs.links.link_at.Goals as goal
 

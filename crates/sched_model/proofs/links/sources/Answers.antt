@@ -1,8 +1,3 @@
-use Rattle.std.proofs.Common.{arith, ◌∙◌, refl, ap}
-use Rattle.sched_model.specs.TaskGraph.{reaches_in}
-use Rattle.sched_model.specs.Numbers.{below}
-use Rattle.std.proofs.Common.{length}
-use Rattle.app_graph.specs.Masks.{mask_of}
 use Rattle.sched_model.proofs.Sources.{no_edge, edge_more}
 use Rattle.sched_model.proofs.links.sources.Goals as goal
 

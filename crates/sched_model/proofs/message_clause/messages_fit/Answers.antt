@@ -1,4 +1,4 @@
-use Rattle.std.proofs.Common.{ℕ, true, ◌↔◌, IsTrue, subst}
+use Rattle.std.proofs.Common.{ℕ, ◌↔◌, IsTrue, subst}
 use Rattle.sched_model.specs.PlainMode.{plain_at}
 use Rattle.sched_model.specs.RightSchedule.{MessageFits}
 use Rattle.sched_model.proofs.Passing.{passes_one}

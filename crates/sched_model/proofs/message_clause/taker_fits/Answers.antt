@@ -1,8 +1,7 @@
-use Rattle.std.proofs.Common.{◌≡◌, length, sym, ◌∙◌, arith, ap}
+use Rattle.std.proofs.Common.{length, sym, ◌∙◌, ap}
 use Rattle.sched_model.specs.declared.links.Link.{Link}
 use Rattle.sched_model.specs.Numbers.{has}
 use Rattle.sched_model.specs.PlainMode.{plain_at, message_at}
-use Rattle.sched_model.specs.Links.{in_set}
 use Rattle.sched_model.proofs.TaskSets.{is_in}
 use Rattle.sched_model.proofs.ClauseTests.{no_taker, taker_early, taker_last}
 use Rattle.sched_model.proofs.message_clause.taker_fits.Goals as goal

@@ -1,10 +1,10 @@
-use Rattle.std.proofs.Common.{length, get_or, sym, ◌∙◌, arith, ap, unsigned_abs}
+use Rattle.std.proofs.Common.{length, get_or, ◌∙◌, arith, ap, unsigned_abs}
 use Rattle.std.proofs.lemmas.List.{get_or-map}
 use Rattle.app_graph.specs.declared.mode_set.App.{App}
 use Rattle.app_graph.specs.declared.mode_set.Message.{Message}
 use Rattle.std.proofs.Common.{List}
 use Rattle.sched_model.specs.declared.links.Link.{Link}
-use Rattle.sched_model.specs.PlainMode.{plain_at, message_at, no_message}
+use Rattle.sched_model.specs.PlainMode.{plain_at, no_message}
 use Rattle.sched_model.specs.Links.{link_of}
 use Rattle.sched_model.proofs.RowPlaces.{how_many, message_shown}
 use Rattle.sched_model.proofs.message_clause.window_of.Goals as goal

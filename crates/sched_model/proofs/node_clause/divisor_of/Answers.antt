@@ -1,6 +1,5 @@
-use Rattle.std.proofs.Common.{rules, arith, ◌≡◌, ◌≤◌, ◌∙◌, sym, ap, w64, pos, ℤ, to_z, of_z, FitsSigned, unsigned_abs}
-use Rattle.std.specs.Int.{IsGcd}
-use Rattle.std.proofs.lemmas.Int.{ints, to_z-of_z, to_z_pos}
+use Rattle.std.proofs.Common.{rules, arith, sym, ap, w64, ℤ, to_z, of_z, FitsSigned, unsigned_abs}
+use Rattle.std.proofs.lemmas.Int.{to_z-of_z, to_z_pos}
 use Rattle.tick_num.proofs.Multiples.{same_gcd}
 use Rattle.sched_model.proofs.Gaps.{gcd_most}
 use Rattle.sched_model.proofs.node_clause.divisor_of.Goals as goal

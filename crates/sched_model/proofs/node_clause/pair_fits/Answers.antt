@@ -1,4 +1,4 @@
-use Rattle.std.proofs.Common.{◌≡◌, sym, ◌∙◌, arith}
+use Rattle.std.proofs.Common.{sym, ◌∙◌}
 use Rattle.sched_model.specs.PlainMode.{plain_at, task_at}
 use Rattle.sched_model.specs.Rounds.{task_start}
 use Rattle.sched_model.proofs.Gaps.{same_runs}

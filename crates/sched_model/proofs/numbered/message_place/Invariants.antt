@@ -1,6 +1,5 @@
-use Rattle.std.proofs.Common.{◌≡◌, ℕ, ◌<◌}
-use Rattle.sched_model.specs.PlainMode.{plain_at, task_at, message_at}
-use Rattle.sched_model.specs.Numbered.{IsTaskOf, IsMessageOf}
+use Rattle.std.proofs.Common.{ℕ, ◌<◌}
+use Rattle.sched_model.specs.Numbered.{IsMessageOf}
 use Rattle.sched_model.proofs.numbered.message_place.Given as goal
 
 abbrev pub invariant-loop-place : goal.invariant-loop-place

@@ -1,4 +1,4 @@
-use Rattle.std.proofs.Common.{sym, ◌∙◌, arith, ap, unsigned_abs}
+use Rattle.std.proofs.Common.{◌∙◌, arith, ap, unsigned_abs}
 use Rattle.app_graph.specs.declared.mode_set.App.{App}
 use Rattle.app_graph.specs.declared.mode_set.Message.{Message}
 use Rattle.sched_model.proofs.RowPlaces.{how_many, message_shown}

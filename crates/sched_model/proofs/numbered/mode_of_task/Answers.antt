@@ -1,4 +1,4 @@
-use Rattle.std.proofs.Common.{◌≤◌, ap, arith, length}
+use Rattle.std.proofs.Common.{ap, arith, length}
 use Rattle.sched_model.proofs.TaskNumbers.{one_mode, few_modes}
 use Rattle.sched_model.proofs.numbered.mode_of_task.Goals as goal
 

@@ -1,5 +1,4 @@
-use Rattle.std.proofs.Common.{ℕ, arith, sym, refl, ◌∙◌, ap, pos}
-use Rattle.std.proofs.lemmas.Int.{ints}
+use Rattle.std.proofs.Common.{ℕ, arith, sym, ◌∙◌, ap, pos}
 use Rattle.sched_model.proofs.round_clauses.rounds_fit.Goals as goal
 
 pub returns : goal.returns

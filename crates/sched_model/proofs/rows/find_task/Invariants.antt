@@ -1,4 +1,4 @@
-use Rattle.std.proofs.Common.{◌≡◌, ◌<◌, length, drop, get_or}
+use Rattle.std.proofs.Common.{◌≡◌, ◌<◌, length, drop}
 use Rattle.sched_model.specs.Rows.{tasks_in, task_in}
 use Rattle.sched_model.proofs.rows.find_task.Given as goal
 

@@ -1,4 +1,4 @@
-use Rattle.std.proofs.Common.{arith, sym, ap, length}
+use Rattle.std.proofs.Common.{arith}
 use Rattle.sched_model.proofs.RowPlaces.{found_at, found_past, count_past}
 use Rattle.sched_model.proofs.rows.place_of.Goals as goal
 

@@ -1,6 +1,5 @@
 use Rattle.std.proofs.Common.{ℕ, ◌<◌, length}
-use Rattle.sched_model.specs.PlainMode.{plain_at, message_at, instance_count}
-use Rattle.sched_model.specs.RightSchedule.{ExactlyOne}
+use Rattle.sched_model.specs.PlainMode.{plain_at}
 use Rattle.sched_model.specs.OneHyperperiod.{Lists, EndsInWindow}
 use Rattle.sched_model.proofs.table_clauses.entries_fit.Given as goal
 

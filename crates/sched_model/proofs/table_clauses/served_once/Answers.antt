@@ -1,4 +1,4 @@
-use Rattle.std.proofs.Common.{◌≡◌, ℕ, ◌<◌, [], length, get_or, All, arith, refl}
+use Rattle.std.proofs.Common.{[]}
 use Rattle.sched_model.specs.PlainMode.{plain_at}
 use Rattle.sched_model.specs.RightSchedule.{TableFits}
 use Rattle.sched_model.proofs.Passing.{all_by_place}

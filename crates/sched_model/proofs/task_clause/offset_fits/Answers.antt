@@ -1,6 +1,5 @@
-use Rattle.std.proofs.Common.{◌≤ℤ◌, ◌<◌, length, pos, sym, ◌∙◌, arith}
+use Rattle.std.proofs.Common.{◌<◌, length, pos, sym, ◌∙◌, arith}
 use Rattle.sched_model.specs.PlainMode.{plain_at}
-use Rattle.sched_model.specs.Rounds.{task_start}
 use Rattle.sched_model.proofs.Sources.{first_is}
 use Rattle.sched_model.proofs.ClauseTests.{no_first, first_task}
 use Rattle.sched_model.proofs.task_clause.offset_fits.Goals as goal
