@@ -1,11 +1,11 @@
 -- The pair of the tests
-use Rattle.std.proofs.Common.{◌≡◌, ℕ, suc, ◌<◌, List, Contains, lit<, refl, sym, ap, subst, ℤ, pos, negsuc}
+use Rattle.std.proofs.Common.{◌≡◌, ℕ, Contains, lit<, refl, sym, subst, ℤ, pos, negsuc}
 use Rattle.app_graph.specs.declared.mode_set.ModeSet.{ModeSet}
 use Rattle.app_graph.specs.Validation.{KeepsRules}
 use Rattle.sched_model.specs.PlainMode.{plain_at, task_at}
 use Rattle.sched_model.specs.ConstraintProblem.{places}
 use Rattle.sched_model.specs.Numbered.{IsTaskOf}
-use Rattle.sched_model.specs.TestModes.{shared_with, IsShared}
+use Rattle.sched_model.specs.TestModes.{shared_with}
 use Rattle.sched_model.proofs.TaskNumbers.{one_place}
 use Rattle.sched_model.proofs.TestLaws.{short_kept, long_kept}
 

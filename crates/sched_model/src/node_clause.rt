@@ -6,6 +6,7 @@ ghost use Rattle.tick_num.specs.Classes.{NeverMeet};
 ghost use Rattle.sched_model.specs.Judged.{IsCase, NodeShared};
 ghost use Rattle.sched_model.specs.PlainMode.{plain_at, task_at};
 ghost use Rattle.sched_model.specs.RightSchedule.{RunsApart};
+ghost use Rattle.sched_model.specs.Rows.{ShowsTask};
 
 use crate::rows::{TaskRow, task_at, task_count};
 use crate::schedule::Schedule;
@@ -53,15 +54,22 @@ fn are_apart(first_start: u64, first: TaskRow, second_start: u64, second: TaskRo
     second.wcet <= divisor - gap
 }
 
-/// Whether the tasks at the places never run at once, or are on two nodes.
-fn pair_fits(set: &ModeSet, mode: u32, s: &Schedule, first: usize, second: usize) -> bool
+/// Whether the tasks at the places, of which the second is `later`, never run at once, or are on two nodes.
+fn pair_fits(
+    set: &ModeSet,
+    mode: u32,
+    s: &Schedule,
+    first: usize,
+    second: usize,
+    later: TaskRow,
+) -> bool
     requires case { IsCase set.now mode s.now }
     requires first { first < length (plain_at set.now mode).tasks }
     requires second { second < length (plain_at set.now mode).tasks }
+    requires later { ShowsTask later (task_at (plain_at set.now mode) second) }
     ensures { IsTrue result ↔ NodeShared (plain_at set.now mode) s.now first second }
 {
     let earlier = task_at(set, mode, first);
-    let later = task_at(set, mode, second);
     if earlier.node != later.node {
         return true;
     }
@@ -74,8 +82,9 @@ fn pairs_fit(set: &ModeSet, mode: u32, s: &Schedule, second: usize) -> bool
     requires second { second < length (plain_at set.now mode).tasks }
     ensures { IsTrue result ↔ ((a : ℕ) → a < second → NodeShared (plain_at set.now mode) s.now a second) }
 {
+    let later = task_at(set, mode, second);
     for first in 0..second {
-        if !pair_fits(set, mode, s, first, second) {
+        if !pair_fits(set, mode, s, first, second, later) {
             return false;
         }
     }

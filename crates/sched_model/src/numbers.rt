@@ -3,8 +3,9 @@
 ghost use Rattle.std.specs.Prelude.{◌≡◌, ◌*◌, ◌/◌, ◌<◌, ◌≤◌, All, fold, length, map, pos, sum_by, unsigned_abs, ◌<ℤ◌};
 ghost use Rattle.app_graph.specs.Hyperperiod.{lcm};
 ghost use Rattle.app_graph.specs.Validation.{KeepsRules};
-ghost use Rattle.sched_model.specs.PlainMode.{hyper, instances, mode_at, most_rounds, plain_at};
+ghost use Rattle.sched_model.specs.PlainMode.{hyper, instances, most_rounds, plain_at};
 
+use crate::rows::apps_of;
 use app_graph::{App, ModeSet};
 use tick_num::{Time, lcm_up_to};
 
@@ -45,14 +46,6 @@ fn instances_in(apps: &[App], hyper: u64) -> u64
         total += app.messages.as_slice().len() as u64 * (hyper / app.period.unsigned_abs());
     }
     total
-}
-
-/// The applications of a mode.
-fn apps_of(set: &ModeSet, mode: u32) -> &[App]
-    requires { mode < length set.now.modes }
-    ensures { result.now ≡ (mode_at set.now mode).apps }
-{
-    set.modes.as_slice()[mode as usize].apps.as_slice()
 }
 
 /// The hyperperiod of the mode, in ticks.

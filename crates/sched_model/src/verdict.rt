@@ -65,7 +65,7 @@ fn first_broken(
     Ok(())
 }
 
-/// Whether the schedule is right for the mode of this number: `Ok` exactly where it keeps the clauses S1 to S8 of `docs/PROOFS.md`,
+/// Whether the schedule is right for the mode of this number: `Ok` exactly where it keeps the clauses S1 to S8 of `docs/PLAN_DOCUMENT.md`,
 /// and else the number of the first one that it breaks. It takes no memory.
 ///
 /// The schedule has the shape of the mode: at least one round, a table for each round, a start for each task and a window for each

@@ -1,9 +1,7 @@
-use Rattle.std.proofs.Common.{◌≡◌, ℕ, ◌+◌, ℤ, List, [], Contains, to_z, of_z, w64, FitsSigned, sym, ◌∙◌, ap, subst, arith, rules}
+use Rattle.std.proofs.Common.{◌+◌, ℤ, List, [], Contains, to_z, of_z, w64, FitsSigned, sym, ◌∙◌, ap, subst, arith, rules}
 use Rattle.std.proofs.lemmas.Int.{to_z-of_z}
-use Rattle.tick_num.specs.declared.differences.Diff.{Diff}
 use Rattle.sched_model.specs.PlainMode.{plain_at, task_at}
-use Rattle.sched_model.specs.ConstraintProblem.{places, order, chosen}
-use Rattle.sched_model.specs.Numbered.{IsTaskOf}
+use Rattle.sched_model.specs.ConstraintProblem.{places}
 use Rattle.sched_model.proofs.LimitedModes.{mode_at_limited}
 use Rattle.node_use.specs.Between.{Shows, plain, between}
 use Rattle.node_use.proofs.numbered.diffs_of.Goals as goal
