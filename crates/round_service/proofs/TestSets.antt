@@ -1,13 +1,12 @@
 -- The mode sets of the tests
-use Rattle.std.proofs.Common.{◌≡◌, ℕ, ◌+◌, ◌*◌, ◌/◌, ◌<◌, ◌≤◌, codes, List, [], ◌∷◌, length, lit<, refl, sym, ap, subst, arith, ℤ, pos, ◌≤ℤ◌}
-use Rattle.std.proofs.lemmas.Int.{ints}
+use Rattle.std.proofs.Common.{◌≡◌, ℕ, ◌<◌, codes, [], ◌∷◌, lit<, refl, sym, subst, pos}
 use Rattle.app_graph.specs.declared.raw.RawSet.{RawSet}
 use Rattle.app_graph.specs.declared.mode_set.ModeSet.{ModeSet}
 use Rattle.app_graph.specs.Hyperperiod.{hyperperiod}
 use Rattle.app_graph.specs.Validation.{KeepsRules}
 use Rattle.sched_model.specs.PlainMode.{plain_at, message_at, hyper, instance_count}
 use Rattle.sched_model.specs.Numbered.{IsMessageOf}
-use Rattle.sched_model.specs.TestModes.{loop_with, IsLoop}
+use Rattle.sched_model.specs.TestModes.{loop_with}
 use Rattle.sched_model.proofs.TaskNumbers.{one_message}
 use Rattle.sched_model.proofs.TestLaws.{wide_kept}
 use Rattle.round_service.specs.TestMode.{half}

@@ -9,7 +9,6 @@ pub use choices::{MessageTimes, first_choices, later_choices, load, round_of_cho
 pub use numbered::{alternatives, diffs_of};
 
 #[cfg(test)]
-mod tests;
-
-#[cfg(test)]
 mod numbered_tests;
+#[cfg(test)]
+mod tests;

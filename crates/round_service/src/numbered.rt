@@ -90,14 +90,7 @@ pub fn alternatives(
 
 /// The two constraints of the choice `g` for instance `i` of the message, in the variables of the mode's constraint problem for so many
 /// rounds, from 1 to 256.
-pub fn diffs_of(
-    set: &ModeSet,
-    mode: u32,
-    rounds: u64,
-    message: u32,
-    i: u64,
-    g: i64,
-) -> [Diff; 2]
+pub fn diffs_of(set: &ModeSet, mode: u32, rounds: u64, message: u32, i: u64, g: i64) -> [Diff; 2]
     requires rules { KeepsRules set.now }
     requires rounds { (1 ≤ rounds) × (rounds ≤ 256) }
     requires message { (a : ℕ) × IsMessageOf set.now mode a message }

@@ -156,7 +156,14 @@ fn loop_problem(rt: HostRuntime) -> Result<(), Fail> {
     assert_eq!(rt; alternatives(&set, 0, 2, 0, 0, &[]), (1, 6));
     let [opening, closing] = diffs_of(&set, 0, 1, 0, 0, 2);
     assert!(rt; opening == Diff { x: 4, y: 0, c: 100 });
-    assert!(rt; closing == Diff { x: 0, y: 5, c: -120 });
+    assert!(rt;
+        closing
+            == Diff {
+                x: 0,
+                y: 5,
+                c: -120
+            }
+    );
     Ok(())
 }
 

@@ -1,4 +1,4 @@
-use Rattle.std.proofs.Common.{◌≡◌, ◌<◌, ◌-◌, length, get_or, pos, ℤ, ◌+ℤ◌, ◌-ℤ◌, to_z, of_z, w64, FitsSigned, sym, ◌∙◌, ap, arith, rules}
+use Rattle.std.proofs.Common.{◌<◌, ◌-◌, length, get_or, pos, ℤ, ◌+ℤ◌, ◌-ℤ◌, w64, FitsSigned, sym, ◌∙◌, ap, arith, rules}
 use Rattle.std.proofs.lemmas.Int.{to_z-of_z}
 use Rattle.sched_model.specs.PlainMode.{plain_at}
 use Rattle.sched_model.specs.ConstraintProblem.{serve, alternatives_of}

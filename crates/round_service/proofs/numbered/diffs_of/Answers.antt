@@ -1,4 +1,4 @@
-use Rattle.std.proofs.Common.{◌≡◌, ℕ, ◌+◌, ◌*◌, ℤ, length, to_z, of_z, w64, FitsSigned, sym, ◌∙◌, ap, subst, arith, rules}
+use Rattle.std.proofs.Common.{◌+◌, ◌*◌, ℤ, length, to_z, of_z, w64, FitsSigned, ◌∙◌, ap, subst, arith, rules}
 use Rattle.std.proofs.lemmas.Int.{to_z-of_z}
 use Rattle.sched_model.specs.PlainMode.{plain_at}
 use Rattle.sched_model.proofs.LimitedModes.{mode_at_limited}
