@@ -334,6 +334,14 @@ fn first_broken_clauses(rt: HostRuntime) -> Result<(), Fail> {
         starts: [0, 81],
         ..right
     };
+    let at_the_end = Plan {
+        starts: [0, 80],
+        ..right
+    };
+    let last_sense = Plan {
+        tasks: [99, 43, 120],
+        ..right
+    };
     let late_sense = Plan {
         tasks: [100, 43, 120],
         ..right
@@ -351,7 +359,9 @@ fn first_broken_clauses(rt: HostRuntime) -> Result<(), Fail> {
         ..right
     };
     assert_eq!(rt; verdict(alloc, &set, &over_the_end)?, Err(1));
+    assert_eq!(rt; verdict(alloc, &set, &at_the_end)?, Err(7));
     assert_eq!(rt; verdict(alloc, &close_loop(alloc)?, &right)?, Err(2));
+    assert_eq!(rt; verdict(alloc, &set, &last_sense)?, Err(4));
     assert_eq!(rt; verdict(alloc, &set, &late_sense)?, Err(3));
     assert_eq!(rt; verdict(alloc, &set, &late_end)?, Err(5));
     assert_eq!(rt; verdict(alloc, &set, &twice)?, Err(7));
