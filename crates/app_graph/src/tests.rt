@@ -791,7 +791,7 @@ fn chain_mode(
     chain: &[(&str, &str)],
 ) -> Result<RawMode, AllocError> {
     let crowd = Crowd {
-        nodes: 2,
+        nodes: 64,
         tasks: count,
         messages: 0,
         from: 0,
@@ -818,19 +818,25 @@ fn chain_mode(
     })
 }
 
-/// The first mode has the tasks 0 to 29, the second one 30 to 59.
+/// The modes have the tasks 0 to 29, 30 to 59 and 60 to 187.
 #[test]
 fn walks(rt: HostRuntime) -> Result<(), Fail> {
     let mut modes = Vec::new(rt.alloc());
     let back = [("t28", "t29"), ("t2", "t28"), ("t1", "t2"), ("t0", "t1")];
     modes.push(chain_mode(rt.alloc(), "one", 30, &back)?)?;
     modes.push(chain_mode(rt.alloc(), "two", 30, &[("t29", "t3"), ("t3", "t4")])?)?;
+    modes.push(chain_mode(
+        rt.alloc(),
+        "three",
+        128,
+        &[("t126", "t127"), ("t0", "t126")],
+    )?)?;
     let raw = RawSet {
         slots: 1,
         round: 10,
         gap: 100,
         host: name(rt.alloc(), "n0")?,
-        nodes: names(rt.alloc(), &["n0", "n1"])?,
+        nodes: numbered(rt.alloc(), "n", 0, 64)?,
         modes: ListOf::from_vec(modes),
     };
     let Ok(set) = validate(rt.alloc(), &raw) else {
@@ -852,8 +858,11 @@ fn walks(rt: HostRuntime) -> Result<(), Fail> {
         (34, 59, false),
         (59, 59, true),
         (29, 33, false),
-        (60, 0, false),
-        (60, 60, true),
+        (60, 187, true),
+        (187, 186, false),
+        (60, 188, false),
+        (188, 0, false),
+        (188, 188, true),
     ];
     for (from, to, reached) in rows {
         assert!(rt; reaches(&set, from, to) == reached, "{from} to {to}");

@@ -1,10 +1,6 @@
 -- The names of a set that keeps the rules are names of a document.
-use Rattle.std.proofs.Common.{◌≡◌, ℕ, ◌+◌, Bool, true, false, not, cond, ◌&&◌, eqb, eq-eqb, ltb, leb, get_or, ap, List, [], ◌∷◌, ◌++◌, length, None, refl, sym, subst, arith}
-use Rattle.std.specs.Prelude.{◌||◌, codes}
-use Rattle.std.specs.List.{AllByRecursion, list_all, flat_map}
-use Rattle.std.specs.Str.{bytes_eq}
-use Rattle.std.proofs.lemmas.Bool.{and_parts, ltb-true, le-leb}
-use Rattle.std.proofs.lemmas.Slice.Eq.{bytes_eq-Decides}
+use Rattle.std.proofs.Common.{◌≡◌, ℕ, ◌+◌, Bool, true, not, List, [], ◌∷◌, ◌++◌, length, None, sym, subst}
+use Rattle.std.specs.List.{AllByRecursion, flat_map}
 use Rattle.app_graph.specs.declared.faults.GraphFault.{GraphFault}
 use Rattle.app_graph.specs.declared.faults.GraphFault.TheVariants.{OutOfRange, Repeated}
 use Rattle.app_graph.specs.declared.keys.Key.TheVariants.{KName}
@@ -24,7 +20,6 @@ use Rattle.app_graph.specs.Validation.{KeepsRules}
 use Rattle.app_graph.proofs.Kept.{kept_parts, all_kept, unless_kept, each_kept}
 use Rattle.ttw_text.specs.Names.{is_name}
 use Rattle.proof_tree.specs.Names.{tasks_in, messages_in}
-use Rattle.proof_tree.proofs.LineRoom.{both_true}
 
 abbrev pub IsName : List ℕ → Type 0
 IsName name = is_name name ≡ true
