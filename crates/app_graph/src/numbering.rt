@@ -5,7 +5,7 @@ ghost use Rattle.app_graph.specs.Numbering.{app_of, apps_from, message_count, me
 
 use crate::lists::ListOf;
 use crate::mode_set::{App, Message, Mode, ModeSet, Task};
-use crate::name_places::{NodePlaces, TaskPlaces};
+use crate::name_places::NamedPlaces;
 use crate::names::Name;
 use crate::raw::{RawApp, RawMessage, RawMode, RawSet, RawTask};
 use std::alloc::{AllocError, Global};
@@ -24,7 +24,7 @@ fn copy_names(alloc: Global, names: &[Name]) -> Result<ListOf<Name>, AllocError>
 /// The task with a number.
 fn number_task(
     alloc: Global,
-    nodes: &NodePlaces<'_>,
+    nodes: &NamedPlaces<'_, Name>,
     number: u32,
     task: &RawTask,
 ) -> Result<Task, AllocError>
@@ -42,7 +42,7 @@ fn number_task(
 /// The tasks with the numbers from `first` on.
 fn number_tasks(
     alloc: Global,
-    nodes: &NodePlaces<'_>,
+    nodes: &NamedPlaces<'_, Name>,
     first: u32,
     tasks: &[RawTask],
 ) -> Result<ListOf<Task>, AllocError>
@@ -60,7 +60,7 @@ fn number_tasks(
 fn numbers(
     alloc: Global,
     first: u32,
-    tasks: &TaskPlaces<'_>,
+    tasks: &NamedPlaces<'_, RawTask>,
     names: &[Name],
 ) -> Result<ListOf<u32>, AllocError>
     requires { first + length tasks.now < 2 ^ 31 }
@@ -78,7 +78,7 @@ fn numbers(
 fn number_message(
     alloc: Global,
     first: u32,
-    tasks: &TaskPlaces<'_>,
+    tasks: &NamedPlaces<'_, RawTask>,
     number: u32,
     message: &RawMessage,
 ) -> Result<Message, AllocError>
@@ -97,7 +97,7 @@ fn number_message(
 fn number_messages(
     alloc: Global,
     first: u32,
-    tasks: &TaskPlaces<'_>,
+    tasks: &NamedPlaces<'_, RawTask>,
     number: u32,
     messages: &[RawMessage],
 ) -> Result<ListOf<Message>, AllocError>
@@ -115,7 +115,7 @@ fn number_messages(
 /// The application whose first task and first message have these numbers.
 fn number_app(
     alloc: Global,
-    nodes: &NodePlaces<'_>,
+    nodes: &NamedPlaces<'_, Name>,
     task: u32,
     message: u32,
     app: &RawApp,
@@ -124,7 +124,7 @@ fn number_app(
     requires messages { message + length app.now.messages < 2 ^ 31 }
     ensures { IfOk result (λ a. a ≡ app_of nodes.now task message app.now) }
 {
-    let tasks = TaskPlaces::of(alloc, app.tasks.as_slice())?;
+    let tasks = NamedPlaces::of(alloc, app.tasks.as_slice())?;
     Ok(App {
         name: app.name.copy(alloc)?,
         period: app.period,
@@ -137,7 +137,7 @@ fn number_app(
 /// The applications of the mode, the first task and the first message of which have these numbers.
 fn number_apps(
     alloc: Global,
-    nodes: &NodePlaces<'_>,
+    nodes: &NamedPlaces<'_, Name>,
     task: u32,
     message: u32,
     mode: &RawMode,
@@ -184,7 +184,7 @@ fn count_messages(mode: &RawMode) -> u32
 /// The mode whose first task and first message have these numbers.
 fn number_mode(
     alloc: Global,
-    nodes: &NodePlaces<'_>,
+    nodes: &NamedPlaces<'_, Name>,
     task: u32,
     message: u32,
     mode: &RawMode,
@@ -202,7 +202,7 @@ fn number_mode(
 /// The modes of the file.
 fn number_modes(
     alloc: Global,
-    nodes: &NodePlaces<'_>,
+    nodes: &NamedPlaces<'_, Name>,
     raw: &RawSet,
 ) -> Result<ListOf<Mode>, AllocError>
     requires tasks { sum_by task_count raw.now.modes < 2 ^ 31 }
@@ -228,7 +228,7 @@ pub(crate) fn number_set(alloc: Global, raw: &RawSet) -> Result<ModeSet, AllocEr
     requires messages { sum_by message_count raw.now.modes < 2 ^ 31 }
     ensures { IfOk result (λ s. s ≡ set_of raw.now) }
 {
-    let nodes = NodePlaces::of(alloc, raw.nodes.as_slice())?;
+    let nodes = NamedPlaces::of(alloc, raw.nodes.as_slice())?;
     Ok(ModeSet {
         slots: raw.slots as u32,
         round: raw.round,
