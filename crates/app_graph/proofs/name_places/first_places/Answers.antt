@@ -1,7 +1,5 @@
-use Rattle.std.proofs.Common.{◌≡◌, ◌∙◌, List, ℕ, is_some, true, false, position, sym, ap, rules, arith}
-use Rattle.std.proofs.lemmas.List.{take_all}
+use Rattle.std.proofs.Common.{◌≡◌, ◌∙◌, List, ℕ, is_some, true, false, sym, ap, rules}
 use Rattle.std.specs.Map.{lookup}
-use Rattle.std.specs.Str.{bytes_eq}
 use Rattle.app_graph.specs.Places.{named}
 use Rattle.app_graph.proofs.FirstPlaces.{place_new, place_old}
 use Rattle.app_graph.proofs.name_places.first_places.Goals as goal

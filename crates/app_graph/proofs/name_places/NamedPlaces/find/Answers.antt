@@ -1,4 +1,4 @@
-use Rattle.std.proofs.Common.{◌≡◌, ◌∙◌, ◌<◌, ◌^◌, List, ℕ, Option, length, ap, sym, subst, position, unwrap_or}
+use Rattle.std.proofs.Common.{◌∙◌, ◌<◌, ◌^◌, List, ℕ, Option, length, ap, sym, subst, position, unwrap_or}
 use Rattle.std.specs.Str.{bytes_eq}
 use Rattle.app_graph.proofs.FirstPlaces.{place_small}
 use Rattle.app_graph.proofs.name_places.NamedPlaces.find.Goals as goal
