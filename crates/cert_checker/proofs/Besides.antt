@@ -1,15 +1,13 @@
 -- What is still to be read of a tree, as nodes are read
-use Rattle.std.proofs.Common.{◌≡◌, ℕ, zero, suc, ◌+◌, ◌-◌, ◌<◌, ◌≤◌, Bool, true, false, List, [], ◌∷◌, ◌++◌, length, get_or, take, Option, Some, None, Ok, Err, refl, sym, ◌∙◌, ap, subst, arith, ℤ, pos, negsuc, ◌+ℤ◌, ◌-ℤ◌, ◌≤ℤ◌, ◌<ℤ◌, length-append}
+use Rattle.std.proofs.Common.{◌≡◌, ℕ, zero, suc, ◌-◌, List, [], ◌∷◌, ◌++◌, length, get_or, take, Ok, Err, refl, sym, ◌∙◌, ap, arith, ℤ, pos, negsuc, ◌+ℤ◌, ◌-ℤ◌, ◌≤ℤ◌, ◌<ℤ◌, length-append}
 use Rattle.std.proofs.lemmas.Int.{ints}
 use borrow.Author.Differences.{same_in}
 use Rattle.std.proofs.lemmas.List.{take_at, take_all, take-take, get_or-take, get_or_at, length-take-le}
 use Rattle.sched_model.specs.Numbers.{natural, counted, span}
 use Rattle.sched_model.specs.PlainMode.{PlainMode}
-use Rattle.sched_model.specs.ConstraintProblem.{alternatives, decisions}
-use Rattle.proof_tree.specs.Items.{Item, Branch}
-use Rattle.proof_tree.specs.TreeLines.{Items}
-use Rattle.proof_tree.specs.Reading.{Refusal, BadLeaf, Place, Read, ◌>>=◌, next_item, each, tree_at}
-use Rattle.cert_checker.specs.TreeStack.{at_, trees_for, beside, tree_due, due_or_done}
+use Rattle.sched_model.specs.ConstraintProblem.{decisions}
+use Rattle.proof_tree.specs.Reading.{Place, Read, ◌>>=◌, next_item, tree_at}
+use Rattle.cert_checker.specs.TreeStack.{at_, trees_for, beside, tree_due}
 
 pub bind_assoc : {A B C : Type 0} (r : Read A) (f : A × Place → Read B) (h : B × Place → Read C) → ((r >>= f) >>= h) ≡ (r >>= λ x. f x >>= h)
 bind_assoc (Ok x) f h = refl

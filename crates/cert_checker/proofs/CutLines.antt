@@ -1,5 +1,5 @@
 -- The lines that are cut off a document are those of its bytes
-use Rattle.std.proofs.Common.{◌≡◌, ℕ, zero, suc, ◌+◌, ◌-◌, ◌<◌, ◌≤◌, Bool, true, false, not, ◌&&◌, cond, eqb, leb, List, [], ◌∷◌, ◌++◌, length, get_or, take, refl, sym, ap, subst, ◌∙◌, arith, length-append}
+use Rattle.std.proofs.Common.{◌≡◌, ℕ, suc, ◌+◌, ◌-◌, ◌≤◌, Bool, true, false, not, ◌&&◌, cond, leb, List, [], ◌∷◌, ◌++◌, length, get_or, take, refl, sym, ap, subst, ◌∙◌, arith, length-append}
 use Rattle.std.specs.Prelude.{Option, Some, None, ◌==◌}
 use Rattle.std.specs.List.{slice_split, onto_first, list_all, join_with_byte, AllByRecursion}
 use Rattle.std.proofs.lemmas.List.{take_at, get_or_at}
@@ -82,6 +82,7 @@ unfed_last c [] u = not_fed (is_feed c) (and_first (not (is_feed c)) true u)
     and_first : (a b : Bool) → (a && b) ≡ true → a ≡ true
     and_first true b e = refl
     and_first false b e = e
+
     not_fed : (a : Bool) → not a ≡ true → a ≡ false
     not_fed true e = absurd cc
     not_fed false e = refl

@@ -1,13 +1,13 @@
 -- A cycle that is read number by number is the cycle of its numbers
-use Rattle.std.proofs.Common.{◌≡◌, ℕ, suc, ◌+◌, ◌-◌, ◌*◌, ◌^◌, ◌<◌, ◌≤◌, ◌≤ℤ◌, neg_ℤ, FitsSigned, w64, Bool, true, false, ◌&&◌, ltb, eqb, List, [], ◌∷◌, length, map, get_or, refl, sym, ap, ◌∙◌, arith, ℤ, pos, ◌+ℤ◌}
+use Rattle.std.proofs.Common.{◌≡◌, ℕ, suc, ◌-◌, ◌*◌, ◌^◌, ◌<◌, ◌≤◌, ◌≤ℤ◌, neg_ℤ, FitsSigned, w64, Bool, true, false, ◌&&◌, List, [], ◌∷◌, length, map, refl, sym, ap, ◌∙◌, arith, ℤ, pos, ◌+ℤ◌}
 use Rattle.std.specs.Prelude.{int_lt, nat_lt, nat_eq}
 use Rattle.std.specs.List.{list_all}
 use Rattle.std.proofs.lemmas.Bool.{lt-ltb}
 use borrow.Author.Differences.{same_in}
 use Rattle.std.proofs.lemmas.Int.{ints}
 use Rattle.tick_num.specs.declared.differences.Diff.{Diff}
-use Rattle.tick_num.specs.Differences.{diff, named, sum_ℤ}
-use Rattle.proof_tree.specs.TreeLines.{closes, is_cycle, is_negative}
+use Rattle.tick_num.specs.Differences.{named, sum_ℤ}
+use Rattle.proof_tree.specs.TreeLines.{closes, is_negative}
 use Rattle.cert_checker.specs.Following.{constraint_at, goes_round}
 
 -- tests in another order

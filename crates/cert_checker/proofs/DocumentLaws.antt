@@ -1,6 +1,6 @@
 -- What is still to be read of a document, as its lines are read
-use Rattle.std.proofs.Common.{◌≡◌, ℕ, zero, suc, ◌+◌, ◌-◌, ◌<◌, ◌≤◌, Bool, true, false, cond, List, [], ◌∷◌, ◌++◌, length, drop, drop-cons, get_or, map, Result, Ok, Err, refl, sym, ap, subst, ◌∙◌, arith, inl, inr, append_assoc, append-nil, length-append}
-use Rattle.std.specs.Prelude.{Option, Some, None, ⊤, IfSome}
+use Rattle.std.proofs.Common.{◌≡◌, ℕ, suc, ◌+◌, ◌-◌, ◌<◌, ◌≤◌, cond, List, [], ◌∷◌, ◌++◌, length, drop, drop-cons, get_or, Result, Ok, Err, refl, sym, ap, subst, ◌∙◌, arith, inl, inr, append_assoc, length-append}
+use Rattle.std.specs.Prelude.{Option, Some, None}
 use Rattle.std.specs.List.{enumerate_from, AllZip}
 use Rattle.std.proofs.lemmas.Bool.{leb-true, ne_eqb}
 use Rattle.std.proofs.lemmas.List.{drop_all, length-map, get_or-map}
@@ -15,7 +15,6 @@ use Rattle.app_graph.specs.Numbering.{modes_from, set_of, task_count, message_co
 use Rattle.app_graph.specs.Validation.{KeepsRules}
 use Rattle.app_graph.proofs.Kept.{all_kept, unless_kept}
 use Rattle.sched_model.specs.PlainMode.{most_rounds}
-use Rattle.sched_model.specs.RightSchedule.{IsSchedule}
 use Rattle.sched_model.specs.FirstBroken.{BreaksFirst}
 use Rattle.sched_model.specs.declared.schedule.Schedule.{Schedule}
 use Rattle.proof_tree.specs.Accepting.{DocMode, doc_mode, doc_modes, IsRight}
@@ -29,7 +28,7 @@ use Rattle.cert_checker.specs.declared.counts.Inside.TheVariants.{Count}
 use Rattle.cert_checker.specs.declared.stages.Stage.{Stage}
 use Rattle.cert_checker.specs.declared.stages.Stage.TheVariants.{Head, Mode, Within, Nothing}
 use Rattle.cert_checker.specs.DraftReading.{doc_at}
-use Rattle.cert_checker.specs.ModeReading.{inside_due, count_due}
+use Rattle.cert_checker.specs.ModeReading.{inside_due}
 use Rattle.cert_checker.specs.Refusals.{said, Fails}
 use Rattle.cert_checker.specs.DocumentStages.{modes_due, stage_due, document_due, FrontRight, Refutes, Halts, BreaksSo}
 use Rattle.cert_checker.proofs.Errors.{some_weaker}
@@ -76,7 +75,6 @@ front_all [] [] right l = tt
 front_all (d ∷ modes) [] right l = absurd (omega (arith, l))
 front_all [] (p ∷ plans) right l = absurd right
 front_all (d ∷ modes) (p ∷ plans) right l = (right.0, front_all modes plans right.1 (omega (arith, l)))
-
 
 pub length-doc_modes : (set : ModeSet) → length (doc_modes set) ≡ length set.modes
 length-doc_modes set = length-map set.modes (doc_mode set)

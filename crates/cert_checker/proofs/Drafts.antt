@@ -4,8 +4,8 @@ use Rattle.std.specs.Prelude.{Option, Some}
 use Rattle.std.proofs.lemmas.List.{drop_all}
 use Rattle.std.proofs.lemmas.List.Elements.{All-append, All-cons, All-nil}
 use Rattle.sched_model.specs.Numbers.{below}
-use Rattle.sched_model.specs.RightSchedule.{IsMessage, HasShape}
-use Rattle.sched_model.specs.TimeLimits.{IsTime, HasTimes}
+use Rattle.sched_model.specs.RightSchedule.{HasShape}
+use Rattle.sched_model.specs.TimeLimits.{HasTimes}
 use Rattle.sched_model.specs.declared.schedule.Schedule.{Schedule}
 use Rattle.sched_model.proofs.Lists.{length-below, get_or-below}
 use Rattle.proof_tree.specs.Accepting.{DocMode}

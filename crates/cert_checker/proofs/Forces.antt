@@ -1,5 +1,5 @@
 -- The constraints in force, as the list that the checker keeps
-use Rattle.std.proofs.Common.{◌≡◌, ℕ, zero, suc, ◌+◌, ◌-◌, ◌*◌, ◌<◌, ◌≤◌, List, [], ◌∷◌, ◌++◌, length, get_or, take, refl, sym, ◌∙◌, ap, arith, ℤ, pos, append-nil, append_assoc, length-append}
+use Rattle.std.proofs.Common.{◌≡◌, ℕ, zero, suc, ◌+◌, ◌*◌, ◌<◌, ◌≤◌, List, [], ◌∷◌, ◌++◌, length, get_or, take, refl, sym, ◌∙◌, ap, arith, ℤ, append-nil, append_assoc, length-append}
 use Rattle.std.proofs.lemmas.List.{take_at, length-take-le}
 use Rattle.tick_num.specs.declared.differences.Diff.{Diff}
 use Rattle.sched_model.specs.PlainMode.{PlainMode}

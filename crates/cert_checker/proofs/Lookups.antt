@@ -1,6 +1,6 @@
 -- The number of the message of a name
-use Rattle.std.proofs.Common.{◌≡◌, ℕ, zero, suc, ◌+◌, ◌<◌, Bool, true, false, not, cond, List, [], ◌∷◌, ◌++◌, length, get_or, map, All, refl, sym, ap, subst, ◌∙◌, arith, append_assoc}
-use Rattle.std.specs.Prelude.{Option, Some, None, unwrap_or, position, find, nat_lt, ◌&&◌}
+use Rattle.std.proofs.Common.{◌≡◌, ℕ, suc, ◌+◌, ◌<◌, Bool, true, false, cond, List, [], ◌∷◌, ◌++◌, length, get_or, map, All, refl, sym, ap, subst, ◌∙◌, arith, append_assoc}
+use Rattle.std.specs.Prelude.{Option, Some, None, unwrap_or, position, find, ◌&&◌}
 use Rattle.std.specs.List.{list_any, list_all, position_or_len}
 use Rattle.std.specs.Str.{bytes_eq}
 use Rattle.std.proofs.lemmas.Bool.{lt-ltb}
@@ -9,9 +9,9 @@ use Rattle.std.proofs.lemmas.List.Elements.{All-append, All-cons, All-nil}
 use Rattle.app_graph.specs.declared.mode_set.ModeSet.{ModeSet}
 use Rattle.app_graph.specs.declared.mode_set.Message.{Message}
 use Rattle.app_graph.specs.declared.mode_set.App.{App}
-use Rattle.sched_model.specs.PlainMode.{PlainMessage, no_message, tasks_of, plain_messages, mode_at, message_at}
+use Rattle.sched_model.specs.PlainMode.{no_message, tasks_of, plain_messages, mode_at, message_at}
 use Rattle.sched_model.specs.RightSchedule.{IsMessage}
-use Rattle.proof_tree.specs.Accepting.{DocMode, is_message, number_of}
+use Rattle.proof_tree.specs.Accepting.{is_message, number_of}
 use Rattle.proof_tree.specs.Names.{messages_in}
 use Rattle.proof_tree.proofs.DistinctNames.{name, number, plain_number, plain_numbers}
 use Rattle.cert_checker.specs.DraftReading.{doc_at}
@@ -48,6 +48,7 @@ lost nm (x ∷ ms) e = here (bytes_eq nm x.name) refl (λ f. lost nm ms f) e
   where
     some_message : (m : Message) → ◌≡◌ {A = Option Message} (Some m) None → ⊥
     some_message m e = absurd cc
+
     here : (b : Bool) → bytes_eq nm x.name ≡ b → (named nm ms ≡ None → list_any (bytes_eq nm) (map name ms) ≡ false) → cond b (Some x) (named nm ms) ≡ None → list_any (bytes_eq nm) (map name (x ∷ ms)) ≡ false
     here true is more f = absurd (some_message x f)
     here false is more f = rw is (more f)

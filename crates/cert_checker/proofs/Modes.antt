@@ -1,6 +1,6 @@
 -- What is still to be read of a mode
-use Rattle.std.proofs.Common.{◌≡◌, ◌≢◌, ℕ, zero, suc, ◌+◌, ◌-◌, ◌<◌, ◌≤◌, Bool, true, false, cond, List, [], ◌∷◌, length, get_or, map, All, ℤ, pos, Ok, Err, refl, sym, ap, subst, ◌∙◌, arith}
-use Rattle.std.specs.Prelude.{Option, Some, None}
+use Rattle.std.proofs.Common.{◌≡◌, ◌≢◌, ℕ, zero, suc, ◌+◌, ◌-◌, ◌<◌, ◌≤◌, cond, List, [], length, get_or, map, All, ℤ, pos, Ok, Err, refl, sym, ap, subst, ◌∙◌, arith}
+use Rattle.std.specs.Prelude.{Option, Some}
 use Rattle.std.proofs.lemmas.Bool.{eq-eqb, ne_eqb}
 use Rattle.std.proofs.lemmas.List.{length-map, get_or-map}
 use Rattle.std.proofs.lemmas.List.Elements.{All-nil, All-from_recursion}
@@ -47,15 +47,15 @@ schedule_starts d r at to ss e len = from (starts_at r at (next_item at.rest)) r
     from (Ok a) ex m =
         let is = starts_are a ss to m in
         let rest : Read (List ℕ) → Read (Option Schedule) = λ s. s >>= λ a.
-            each (λ name to. task_at name to (next_item to.rest)) d.tasks a.1 >>= λ b.
-            each (λ name to. message_at name to (next_item to.rest)) d.messages b.1 >>= λ c.
-            each (λ j to. table_at d (j + 1) to (next_item to.rest)) (below r) c.1 >>= λ e.
-            Ok (Some (schedule_of (record { starts = a.0; tasks = b.0; messages = c.0; tables = e.0 })), e.1) in
+        each (λ name to. task_at name to (next_item to.rest)) d.tasks a.1 >>= λ b.
+        each (λ name to. message_at name to (next_item to.rest)) d.messages b.1 >>= λ c.
+        each (λ j to. table_at d (j + 1) to (next_item to.rest)) (below r) c.1 >>= λ e.
+        Ok (Some (schedule_of (record { starts = a.0; tasks = b.0; messages = c.0; tables = e.0 })), e.1) in
         ap rest ex
         ∙ ap (λ n. each (λ name to. task_at name to (next_item to.rest)) d.tasks a.1 >>= λ b.
-            each (λ name to. message_at name to (next_item to.rest)) d.messages b.1 >>= λ c.
-            each (λ j to. table_at d (j + 1) to (next_item to.rest)) (below n) c.1 >>= λ e.
-            Ok (Some (schedule_of (record { starts = a.0; tasks = b.0; messages = c.0; tables = e.0 })), e.1)) (sym len ∙ ap (λ (l : List ℤ). length l) (sym is.0))
+        each (λ name to. message_at name to (next_item to.rest)) d.messages b.1 >>= λ c.
+        each (λ j to. table_at d (j + 1) to (next_item to.rest)) (below n) c.1 >>= λ e.
+        Ok (Some (schedule_of (record { starts = a.0; tasks = b.0; messages = c.0; tables = e.0 })), e.1)) (sym len ∙ ap (λ (l : List ℤ). length l) (sym is.0))
         ∙ ap (λ (l : List ℤ). tasks_due d l [] [] [] a.1) is.0 ∙ ap (λ (p : Place). tasks_due d ss [] [] [] p) is.1
 
 pub schedule_fails : (d : DocMode) (r : ℕ) (at : Place) (f : Refusal) → moments (starts_at r at (next_item at.rest)) ≡ Err f → schedule d r at ≡ Err f
@@ -63,14 +63,15 @@ schedule_fails d r at f e = from (starts_at r at (next_item at.rest)) refl e
   where
     same : (g : Refusal) → ◌≡◌ {A = Read (List ℤ)} (Err g) (Err f) → g ≡ f
     same g h = cc
+
     from : (x : Read (List ℕ)) → starts_at r at (next_item at.rest) ≡ x → moments x ≡ Err f → schedule d r at ≡ Err f
     from (Ok a) ex m = absurd cc
     from (Err g) ex m =
         let rest : Read (List ℕ) → Read (Option Schedule) = λ s. s >>= λ a.
-            each (λ name to. task_at name to (next_item to.rest)) d.tasks a.1 >>= λ b.
-            each (λ name to. message_at name to (next_item to.rest)) d.messages b.1 >>= λ c.
-            each (λ j to. table_at d (j + 1) to (next_item to.rest)) (below r) c.1 >>= λ e.
-            Ok (Some (schedule_of (record { starts = a.0; tasks = b.0; messages = c.0; tables = e.0 })), e.1) in
+        each (λ name to. task_at name to (next_item to.rest)) d.tasks a.1 >>= λ b.
+        each (λ name to. message_at name to (next_item to.rest)) d.messages b.1 >>= λ c.
+        each (λ j to. table_at d (j + 1) to (next_item to.rest)) (below r) c.1 >>= λ e.
+        Ok (Some (schedule_of (record { starts = a.0; tasks = b.0; messages = c.0; tables = e.0 })), e.1) in
         ap rest ex ∙ ap (λ (h : Refusal). Err h) (same g m)
 
 -- the tasks and messages of each mode have a name each

@@ -1,6 +1,6 @@
 -- A line without a form is refused at each place, and so is an end of the document before its last line
-use Rattle.std.proofs.Common.{◌≡◌, ℕ, zero, suc, ◌+◌, ◌-◌, ◌<◌, ◌≤◌, ◌⊎◌, inl, inr, ⊎_elim, Bool, true, false, List, [], ◌∷◌, ◌++◌, length, get_or, drop, Ok, Err, refl, sym, ap, subst, ◌∙◌, arith, append-nil}
-use Rattle.std.specs.Prelude.{Option, Some, None, IfSome}
+use Rattle.std.proofs.Common.{◌≡◌, ℕ, ◌+◌, ◌-◌, ◌<◌, ◌≤◌, ⊎_elim, List, [], ◌∷◌, length, get_or, drop, Err, refl, sym, ap, subst, ◌∙◌, arith, append-nil}
+use Rattle.std.specs.Prelude.{Option, None, IfSome}
 use Rattle.std.proofs.lemmas.Bool.{cases_lt}
 use Rattle.app_graph.specs.declared.mode_set.ModeSet.{ModeSet}
 use Rattle.sched_model.specs.PlainMode.{most_rounds}
@@ -10,7 +10,7 @@ use Rattle.ttw_text.specs.Lines.{lines}
 use Rattle.proof_tree.specs.Items.{Item}
 use Rattle.proof_tree.specs.Accepting.{DocMode, doc_modes, AcceptedFor, items_of, IsPlan}
 use Rattle.proof_tree.specs.TreeLines.{Items}
-use Rattle.proof_tree.specs.Reading.{Refusal, Grammar, Place, Read, ◌>>=◌, Reading, next_item, counts_at, tree_at, starts_at, task_at, message_at, table_at, mode_line, due, after, fixed, is_head, is_end, behind_head, read_document}
+use Rattle.proof_tree.specs.Reading.{Grammar, Place, ◌>>=◌, Reading, next_item, counts_at, tree_at, starts_at, task_at, message_at, table_at, mode_line, due, after, is_head, is_end, behind_head, read_document}
 use Rattle.proof_tree.specs.Refusing.{RefusedFrom, Refuses}
 use Rattle.proof_tree.proofs.DocumentReading.{document_is}
 use Rattle.cert_checker.specs.declared.refused.Refused.{Refused}
@@ -47,22 +47,22 @@ draft_unread d s line ls hand left e =
     ⊎_elim
     (λ (lt : length ts < length d.tasks). task_fails d starts ts ms bs at (get_or d.tasks (length ts) []) (Grammar line) lt refl (ap (task_at (get_or d.tasks (length ts) []) at) e))
     (λ (done : length d.tasks ≤ length ts).
-        ⊎_elim
-        (λ (lt : length ms < length d.messages). message_fails d starts ts ms bs at (get_or d.messages (length ms) []) (Grammar line) done lt refl (ap (message_at (get_or d.messages (length ms) []) at) e))
-        (λ (gone : length d.messages ≤ length ms).
-            let more : length bs < length starts =
-            ⊎_elim (λ (a : length ts < length s.task_names). absurd (omega (arith, a, done, tasks)))
-            (λ b. ⊎_elim (λ (m : length ms < length s.message_names). absurd (omega (arith, m, gone, messages))) (λ (t : length bs < length starts). t) b)
-            left in
-            table_fails d starts ts ms bs at (length bs + 1) (Grammar line) done gone more refl (ap (table_at d (length bs + 1) at) e))
-        (cases_lt (length ms) (length d.messages)))
+    ⊎_elim
+    (λ (lt : length ms < length d.messages). message_fails d starts ts ms bs at (get_or d.messages (length ms) []) (Grammar line) done lt refl (ap (message_at (get_or d.messages (length ms) []) at) e))
+    (λ (gone : length d.messages ≤ length ms).
+    let more : length bs < length starts =
+    ⊎_elim (λ (a : length ts < length s.task_names). absurd (omega (arith, a, done, tasks)))
+    (λ b. ⊎_elim (λ (m : length ms < length s.message_names). absurd (omega (arith, m, gone, messages))) (λ (t : length bs < length starts). t) b)
+    left in
+    table_fails d starts ts ms bs at (length bs + 1) (Grammar line) done gone more refl (ap (table_at d (length bs + 1) at) e))
+    (cases_lt (length ms) (length d.messages)))
     (cases_lt (length ts) (length d.tasks))
 
 inside_unread : (o : ℕ) (d : DocMode) (inside : Inside) (line : ℕ) (ls : Items) → IsInside d inside → next_item ls ≡ None → inside_due o d inside (here line ls) ≡ Err (Grammar line)
 inside_unread o d (Count r) line ls is e = ap (λ (i : Option Item). counts_at o d (most_rounds d.mode + 1 - r) r (here line ls) i) e
 inside_unread o d (Node w) line ls is e =
     ap (λ (i : Option Item). (tree_at o w.problem.mode w.problem.rounds (length (decisions w.problem.mode) - length w.prefix.items) w.prefix.items (here line ls) i
-        >>= λ x. walk_beside o w x.1) >>= λ x. count_due o d (w.problem.rounds + 1) x.1) e
+    >>= λ x. walk_beside o w x.1) >>= λ x. count_due o d (w.problem.rounds + 1) x.1) e
 inside_unread o d (Starts r) line ls is e = schedule_fails d r (here line ls) (Grammar line) (ap (λ (i : Option Item). moments (starts_at r (here line ls) i)) e)
 inside_unread o d (Rest s) line ls is e = draft_unread d s line ls is.0 is.1 e
 

@@ -1,17 +1,16 @@
 -- A walk from one prefix to the next
-use Rattle.std.proofs.Common.{◌≡◌, ℕ, zero, suc, ◌+◌, ◌-◌, ◌<◌, ◌≤◌, Bool, true, false, cond, ◌⊎◌, ⊎_elim, List, [], ◌∷◌, ◌++◌, length, get_or, take, Some, Ok, Err, refl, sym, ◌∙◌, ap, subst, arith, ℤ, pos, ◌+ℤ◌, ◌≤ℤ◌, ◌<ℤ◌}
+use Rattle.std.proofs.Common.{◌≡◌, ℕ, suc, ◌-◌, ◌<◌, ◌≤◌, true, cond, ⊎_elim, List, [], ◌∷◌, ◌++◌, length, take, Some, Ok, Err, refl, sym, ◌∙◌, ap, subst, arith, ℤ, pos, ◌+ℤ◌, ◌≤ℤ◌}
 use Rattle.std.proofs.lemmas.Int.{ints}
 use Rattle.std.proofs.lemmas.Bool.{cases_lt, lt-ltb, le-ltb}
 use Rattle.std.proofs.lemmas.List.{length-take-le}
 use Rattle.sched_model.specs.Numbers.{span}
-use Rattle.sched_model.specs.PlainMode.{PlainMode}
 use Rattle.sched_model.specs.ConstraintProblem.{alternatives, decisions}
 use Rattle.proof_tree.specs.Items.{Branch}
 use Rattle.proof_tree.specs.TreeLines.{Items}
-use Rattle.proof_tree.specs.Reading.{Place, Read, ◌>>=◌, BadLeaf, tree_at}
+use Rattle.proof_tree.specs.Reading.{Place, ◌>>=◌, BadLeaf, tree_at}
 use Rattle.constraint_set.specs.Posed.{Posed}
 use Rattle.cert_checker.specs.declared.walk.Walk.{Walk}
-use Rattle.cert_checker.specs.TreeStack.{at_, IsLevel, IsWalk, trees_for, beside, tree_due, line_at, behind_line, walk_due, walk_beside, walk_branch, walk_children, walk_goes}
+use Rattle.cert_checker.specs.TreeStack.{at_, IsLevel, trees_for, beside, tree_due, line_at, behind_line, walk_due, walk_beside, walk_branch, walk_children, walk_goes}
 use Rattle.cert_checker.proofs.Besides.{bind_assoc, span_first, first_due, next_due, down_due}
 
 pub next_among : (a b : Posed) (p g p' : List ℤ) (k : ℕ) (last most v : ℤ) → IsLevel a.mode a.rounds p g k → b ≡ a → p' ≡ take k p → last ≡ at_ p k → most ≡ at_ g k → v ≡ last +ℤ pos 1 → v ≤ℤ most →

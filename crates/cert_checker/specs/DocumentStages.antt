@@ -1,11 +1,11 @@
 -- What is still to be read of a document, and what a line leads to
-use Rattle.std.specs.Prelude.{◌≡◌, ℕ, ◌+◌, ◌<◌, ◌≤◌, ◌==◌, ⊤, List, [], ◌∷◌, ◌++◌, length, drop, Option, Some, None, Result, Ok, Err, if◌then◌else◌, IfSome}
+use Rattle.std.specs.Prelude.{◌≡◌, ℕ, ◌+◌, ◌<◌, ◌≤◌, ◌==◌, ⊤, List, [], ◌∷◌, ◌++◌, length, drop, Option, Some, None, Ok, Err, if◌then◌else◌, IfSome}
 use Rattle.std.specs.List.{enumerate_from}
 use Rattle.app_graph.specs.declared.mode_set.ModeSet.{ModeSet}
 use Rattle.sched_model.specs.FirstBroken.{BreaksFirst}
 use Rattle.sched_model.specs.declared.schedule.Schedule.{Schedule}
 use Rattle.proof_tree.specs.Accepting.{DocMode, doc_modes, IsRight}
-use Rattle.proof_tree.specs.Reading.{Refusal, Grammar, Place, Read, Reading, fixed, is_head, with_mode, read_modes, close, behind_head}
+use Rattle.proof_tree.specs.Reading.{Grammar, Place, Reading, fixed, is_head, with_mode, read_modes, close, behind_head}
 use Rattle.proof_tree.specs.Refusing.{RefusedFrom}
 use Rattle.cert_checker.specs.declared.refused.Refused.{Refused}
 use Rattle.cert_checker.specs.declared.refused.Refused.TheVariants as refused

@@ -1,5 +1,5 @@
 -- A schedule that is read line by line: the parts that were read, and what is still to be read
-use Rattle.std.specs.Prelude.{◌≡◌, ℕ, ◌+◌, ◌<◌, ◌≤◌, ◌⊎◌, All, ℤ, pos, List, [], ◌∷◌, ◌++◌, length, drop, map, Option, Some, Ok}
+use Rattle.std.specs.Prelude.{◌≡◌, ℕ, ◌+◌, ◌≤◌, All, ℤ, pos, List, ◌++◌, length, drop, map, Option, Some, Ok}
 use Rattle.app_graph.specs.declared.mode_set.ModeSet.{ModeSet}
 use Rattle.sched_model.specs.Numbers.{below}
 use Rattle.sched_model.specs.PlainMode.{mode_at}

@@ -1,5 +1,5 @@
 -- What is still to be read of a mode, and what a line leads to
-use Rattle.std.specs.Prelude.{◌≡◌, ℕ, ◌+◌, ◌-◌, ◌<◌, ◌≤◌, ◌⊎◌, ⊤, List, length, Option, Some, None, Ok}
+use Rattle.std.specs.Prelude.{◌≡◌, ℕ, ◌+◌, ◌-◌, ◌<◌, ◌≤◌, ◌⊎◌, ⊤, length, Option, Some, None, Ok}
 use Rattle.sched_model.specs.PlainMode.{most_rounds}
 use Rattle.sched_model.specs.RightSchedule.{HasShape}
 use Rattle.sched_model.specs.TimeLimits.{HasTimes}

@@ -1,5 +1,5 @@
 -- What a refusal says
-use Rattle.std.specs.Prelude.{◌≡◌, ℕ, ◌≤◌, true, List, length, Option, Some, None, Err, IfSome}
+use Rattle.std.specs.Prelude.{◌≡◌, ◌≤◌, true, length, Option, Some, None, Err, IfSome}
 use Rattle.proof_tree.specs.Items.{Item, other_words}
 use Rattle.proof_tree.specs.Spelled.{is_writable}
 use Rattle.proof_tree.specs.Reading.{Refusal, Grammar, Names, Clause, BadLeaf, Extra, MissingCount, Unfinished, Read}

@@ -1,12 +1,12 @@
 -- A tree that is read line by line: the choices of the prefix whose node is due, the greatest alternative at each of them, and what is still to be read
-use Rattle.std.specs.Prelude.{◌≡◌, ℕ, zero, suc, ◌+◌, ◌-◌, ◌<◌, ◌≤◌, Bool, true, false, if◌then◌else◌, nat_lt, ℤ, pos, ◌+ℤ◌, ◌≤ℤ◌, List, [], ◌∷◌, ◌++◌, length, take, slice_index_or, Option, Some, None, Result, Ok, Err}
+use Rattle.std.specs.Prelude.{◌≡◌, ℕ, zero, suc, ◌+◌, ◌-◌, ◌<◌, ◌≤◌, Bool, true, false, if◌then◌else◌, nat_lt, ℤ, pos, ◌+ℤ◌, ◌≤ℤ◌, List, [], ◌∷◌, ◌++◌, length, take, slice_index_or, Some, Ok, Err}
 use Rattle.tick_num.specs.declared.differences.Diff.{Diff}
 use Rattle.sched_model.specs.Numbers.{span}
 use Rattle.sched_model.specs.PlainMode.{PlainMode}
 use Rattle.sched_model.specs.ConstraintProblem.{alternatives, decisions, in_force, load}
 use Rattle.proof_tree.specs.Items.{Item}
 use Rattle.proof_tree.specs.TreeLines.{Items}
-use Rattle.proof_tree.specs.Reading.{Refusal, Place, Read, ◌>>=◌, next_item, each, tree_at, leaf_end, BadLeaf}
+use Rattle.proof_tree.specs.Reading.{Place, Read, ◌>>=◌, next_item, each, tree_at, leaf_end, BadLeaf}
 use Rattle.cert_checker.specs.declared.walk.Walk.{Walk}
 
 abbrev pub at_ : List ℤ → ℕ → ℤ

@@ -63,19 +63,15 @@ pub(crate) fn task_of(name: &[u8], line: u64, item: &PlanLine<'_>) -> Result<u64
 }
 
 /// Where the first window of the message of this name, which is due at the line, opens and closes.
-pub(crate) fn message_of(
-    name: &[u8],
-    line: u64,
-    item: &PlanLine<'_>,
-) -> Result<(u64, u64), Refused>
+pub(crate) fn message_of(name: &[u8], line: u64, item: &PlanLine<'_>) -> Result<(u64, u64), Refused>
     requires fits { FitsLine (meaning item.now) }
     ensures ok { IfOk result (λ w. (rest : Items) → message_at name.now (line_at line (meaning item.now) rest) (Some (meaning item.now)) ≡ Ok (w, behind_line line rest)) }
     ensures few { IfOk result (λ w. (w.0 ≤ 2000000000000) × (w.1 ≤ 2000000000000)) }
     ensures err { IfErr result (λ e. (rest : Items) → Fails e (message_at name.now (line_at line (meaning item.now) rest) (Some (meaning item.now)))) }
 {
     match item {
-        PlanLine::Message(found, opens, closes) => {
-            if !is_same(found, name) {
+        PlanLine::Message(named, opens, closes) => {
+            if !is_same(named, name) {
                 return Err(Refused::Names(line));
             }
             Ok((*opens, *closes))

@@ -15,3 +15,6 @@ mod walk;
 
 pub use checking::{Accepted, check};
 pub use refused::Refused;
+
+#[cfg(test)]
+mod tests;

@@ -1,17 +1,14 @@
-use Rattle.std.proofs.Common.{rules, ◌≡◌, ◌≤◌, ℕ, ◌+◌, List, [], ◌∷◌, Some, None, length, drop, sym, ap, subst, ◌∙◌, arith, refl, IsTrue}
-use Rattle.std.specs.Prelude.{Option, IfSome}
+use Rattle.std.proofs.Common.{rules, ◌≡◌, ℕ, List, [], ◌∷◌, Some, None, length, drop, sym, ap, subst, ◌∙◌, arith, IsTrue}
+use Rattle.std.specs.Prelude.{IfSome}
 use Rattle.std.proofs.lemmas.List.{drop_all}
 use Rattle.ttw_text.specs.Lines.{lines}
-use Rattle.proof_tree.specs.Items.{Item}
 use Rattle.proof_tree.specs.TreeLines.{Items}
 use Rattle.proof_tree.specs.Accepting.{doc_modes, AcceptedFor}
 use Rattle.proof_tree.specs.PlanLines.{meaning}
 use Rattle.proof_tree.specs.Reading.{next_item}
 use Rattle.proof_tree.specs.Refusing.{Refuses}
-use Rattle.sched_model.specs.declared.schedule.Schedule.{Schedule}
 use Rattle.cert_checker.specs.declared.refused.Refused.{Refused}
-use Rattle.cert_checker.specs.declared.stages.Stage.TheVariants.{Nothing}
-use Rattle.cert_checker.specs.DocumentLines.{items_left, line_read}
+use Rattle.cert_checker.specs.DocumentLines.{items_left}
 use Rattle.cert_checker.specs.DocumentStages.{FrontRight, document_due}
 use Rattle.cert_checker.specs.Refusals.{said}
 use Rattle.cert_checker.proofs.Errors.{handed_on}

@@ -1,4 +1,4 @@
-use Rattle.std.proofs.Common.{◌≡◌, ap, ◌∙◌, rules}
+use Rattle.std.proofs.Common.{ap, ◌∙◌}
 use Rattle.sched_model.specs.PlainMode.{plain_at}
 use Rattle.constraint_set.specs.Posed.{Posed}
 use Rattle.cert_checker.proofs.Modes.{tree_begins}

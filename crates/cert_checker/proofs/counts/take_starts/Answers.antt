@@ -14,7 +14,7 @@ returns-in_err-starts-clause-err c =
     let e = c.in_err-starts.field-0.0 in
     let d = doc_at c.args.set.now c.args.mode in
     handed_on c.from_residual.result e _ c.from_residual.ensures.1 (λ rest.
-        fails_with e _ _ (λ f r. schedule_fails d c.args.rounds (line_at c.args.line (meaning c.args.item.now) rest) f r) (c.in_err-starts.ensures.err rest))
+    fails_with e _ _ (λ f r. schedule_fails d c.args.rounds (line_at c.args.line (meaning c.args.item.now) rest) f r) (c.in_err-starts.ensures.err rest))
 
 pub returns-clause-ok : goal.returns-clause-ok
 returns-clause-ok c =

@@ -1,4 +1,4 @@
-use Rattle.std.proofs.Common.{◌≡◌, ℕ, List, ◌∷◌, map, sym, ap, ◌∙◌}
+use Rattle.std.proofs.Common.{ℕ, List, ◌∷◌, map, sym, ap, ◌∙◌}
 use Rattle.proof_tree.specs.Grammar.{value}
 use Rattle.proof_tree.specs.TreeLines.{is_negative}
 use Rattle.cert_checker.proofs.Cycles.{begun}

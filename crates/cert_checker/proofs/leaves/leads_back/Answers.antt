@@ -1,6 +1,6 @@
-use Rattle.std.proofs.Common.{◌≡◌, ◌≤◌, ℕ, List, ◌∷◌, length, map, suc, sym, ap, subst, ◌∙◌, arith, rules, refl, ℤ, ◌+ℤ◌, FitsSigned, w64, to_z, of_z}
+use Rattle.std.proofs.Common.{◌≡◌, ℕ, ◌∷◌, length, map, suc, sym, ap, ◌∙◌, arith, rules, ℤ, ◌+ℤ◌, FitsSigned, w64, to_z}
 use mir.Syntax.{w128}
-use Rattle.std.proofs.lemmas.Int.{ints, to_z-of_z}
+use Rattle.std.proofs.lemmas.Int.{to_z-of_z}
 use Rattle.proof_tree.specs.Grammar.{value}
 use Rattle.cert_checker.specs.Following.{goes_round}
 use Rattle.cert_checker.proofs.Cycles.{went_on, one_less}

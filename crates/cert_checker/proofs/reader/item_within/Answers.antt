@@ -1,7 +1,6 @@
-use Rattle.std.proofs.Common.{◌≡◌, ◌≤◌, Some, length, ap, sym, ◌∙◌, rules, arith}
+use Rattle.std.proofs.Common.{◌≡◌, ◌≤◌, Some, length, ap, sym, ◌∙◌, rules}
 use Rattle.std.specs.Prelude.{option_map}
 use Rattle.std.specs.Result.{result_ok}
-use Rattle.proof_tree.specs.Items.{Item}
 use Rattle.proof_tree.specs.Grammar.{item_of}
 use Rattle.proof_tree.specs.PlanLines.{meaning}
 use Rattle.cert_checker.proofs.CutLines.{fits_line, read_here}

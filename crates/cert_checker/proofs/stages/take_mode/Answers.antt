@@ -1,4 +1,4 @@
-use Rattle.std.proofs.Common.{◌≡◌, ◌<◌, ◌≤◌, ℕ, List, Some, Ok, length, ap, subst, sym, ◌∙◌, rules, arith}
+use Rattle.std.proofs.Common.{◌≡◌, ◌<◌, ◌≤◌, ℕ, List, Some, Ok, length, ap, subst, arith}
 use Rattle.app_graph.specs.declared.mode_set.Mode.{Mode}
 use Rattle.proof_tree.specs.PlanLines.{meaning}
 use Rattle.proof_tree.specs.Reading.{mode_line}
@@ -16,8 +16,8 @@ returns-in_err-take_name-clause-err c =
     let item = meaning c.args.item.now in
     let less : c.args.mode < length set.modes = omega (arith, c.if-mode-as_slice.true, ap (λ (l : List Mode). length l) c.as_slice.ensures) in
     handed_on c.from_residual.result e _ c.from_residual.ensures.1 (λ rest.
-        name_halts set c.args.mode (line_at c.args.line item rest) e less
-        (subst (λ (k : ℕ). Fails e (mode_line (doc_at set k) (line_at c.args.line item rest) (Some item))) c.number_of.ensures (c.in_err-take_name.ensures.err rest)))
+    name_halts set c.args.mode (line_at c.args.line item rest) e less
+    (subst (λ (k : ℕ). Fails e (mode_line (doc_at set k) (line_at c.args.line item rest) (Some item))) c.number_of.ensures (c.in_err-take_name.ensures.err rest)))
 
 pub returns-then-mode-as_slice-clause-goes : goal.returns-then-mode-as_slice-clause-goes
 returns-then-mode-as_slice-clause-goes c =
@@ -33,7 +33,7 @@ returns-in_err-take_end-clause-err c =
     let set = c.args.set.now in
     let more : length set.modes ≤ c.args.mode = omega (arith, c.if-mode-as_slice.false, ap (λ (l : List Mode). length l) c.as_slice.ensures) in
     handed_on c.from_residual-in_err-take_end.result e _ c.from_residual-in_err-take_end.ensures.1 (λ rest.
-        end_halts set c.args.mode (line_at c.args.line (meaning c.args.item.now) rest) e more (c.in_err-take_end.ensures.err rest))
+    end_halts set c.args.mode (line_at c.args.line (meaning c.args.item.now) rest) e more (c.in_err-take_end.ensures.err rest))
 
 pub returns-clause-goes : goal.returns-clause-goes
 returns-clause-goes c =

@@ -1,4 +1,3 @@
-use Rattle.std.proofs.Common.{◌≡◌, rules}
 use Rattle.std.proofs.lemmas.Result.{IfErr-weaker, IfOk-weaker}
 use Rattle.cert_checker.specs.DraftReading.{doc_at}
 use Rattle.cert_checker.proofs.draft.Draft.take.Goals as goal

@@ -10,9 +10,9 @@ returns-in_err-window-clause-err c =
     let s = c.args.self.now in
     let e = c.in_err-window.field-0.0 in
     handed_on c.from_residual.result e _ c.from_residual.ensures.1 (λ d rest hand.
-        let done : length d.tasks ≤ length s.tasks.items = omega (arith, c.requires.tasks, ap length hand.task_names) in
-        let more : length s.messages.items < length d.messages = omega (arith, c.requires.more, ap length hand.message_names) in
-        let len : c.len.result ≡ length s.messages.items = search rules in
-        let name : get_or d.messages (length s.messages.items) [] ≡ c.at-name.result.now =
-        ap (λ (l : List (List ℕ)). get_or l (length s.messages.items) []) (sym hand.message_names) ∙ ap (λ n. get_or s.message_names n []) (sym len) ∙ sym c.at-name.ensures in
-        fails_with e _ _ (λ f r. message_fails d s.starts.items s.tasks.items s.messages.items s.tables.items (line_at c.args.line (meaning c.args.item.now) rest) c.at-name.result.now f done more name r) (c.in_err-window.ensures.err rest))
+    let done : length d.tasks ≤ length s.tasks.items = omega (arith, c.requires.tasks, ap length hand.task_names) in
+    let more : length s.messages.items < length d.messages = omega (arith, c.requires.more, ap length hand.message_names) in
+    let len : c.len.result ≡ length s.messages.items = search rules in
+    let name : get_or d.messages (length s.messages.items) [] ≡ c.at-name.result.now =
+    ap (λ (l : List (List ℕ)). get_or l (length s.messages.items) []) (sym hand.message_names) ∙ ap (λ n. get_or s.message_names n []) (sym len) ∙ sym c.at-name.ensures in
+    fails_with e _ _ (λ f r. message_fails d s.starts.items s.tasks.items s.messages.items s.tables.items (line_at c.args.line (meaning c.args.item.now) rest) c.at-name.result.now f done more name r) (c.in_err-window.ensures.err rest))

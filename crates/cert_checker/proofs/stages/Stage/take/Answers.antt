@@ -1,4 +1,4 @@
-use Rattle.std.proofs.Common.{◌≡◌, ◌<◌, ◌≤◌, ℕ, Some, length, ap, subst, sym, refl, ◌∙◌, rules, arith}
+use Rattle.std.proofs.Common.{◌≡◌, ℕ, Some, length, subst, sym, rules}
 use Rattle.std.proofs.lemmas.Result.{IfErr-weaker}
 use Rattle.proof_tree.specs.PlanLines.{meaning}
 use Rattle.cert_checker.specs.declared.refused.Refused.TheVariants.{Grammar}
@@ -16,9 +16,9 @@ returns-in_err-take_head-in-Head-clause-err c =
     let set = c.args.set.now in
     let plans = c.args.plans.now.items in
     handed_on c.from_residual.result e _ c.from_residual.ensures.1 (λ rest.
-        let at = line_at c.args.line (meaning c.args.item.now) rest in
-        subst (λ (s : Stage). Refutes set e (document_due set plans s at)) (sym c.in-Head.is)
-        (halts_refutes set plans Head at e c.requires.right (head_halts set (length plans) at e (c.in_err-take_head-in-Head.ensures.err rest))))
+    let at = line_at c.args.line (meaning c.args.item.now) rest in
+    subst (λ (s : Stage). Refutes set e (document_due set plans s at)) (sym c.in-Head.is)
+    (halts_refutes set plans Head at e c.requires.right (head_halts set (length plans) at e (c.in_err-take_head-in-Head.ensures.err rest))))
 
 pub returns-in-Mode-clause-err : goal.returns-in-Mode-clause-err
 returns-in-Mode-clause-err c =
@@ -26,16 +26,16 @@ returns-in-Mode-clause-err c =
     let plans = c.args.plans.now.items in
     let k : c.len.result ≡ length plans = search rules in
     IfErr-weaker c.take_mode.result _ _ (λ e h rest.
-        let at = line_at c.args.line (meaning c.args.item.now) rest in
-        subst (λ (s : Stage). Refutes set e (document_due set plans s at)) (sym c.in-Mode.is)
-        (halts_refutes set plans Mode at e c.requires.right (subst (λ (i : ℕ). Halts e (stage_due set i Mode at)) k (h rest)))) c.take_mode.ensures.err
+    let at = line_at c.args.line (meaning c.args.item.now) rest in
+    subst (λ (s : Stage). Refutes set e (document_due set plans s at)) (sym c.in-Mode.is)
+    (halts_refutes set plans Mode at e c.requires.right (subst (λ (i : ℕ). Halts e (stage_due set i Mode at)) k (h rest)))) c.take_mode.ensures.err
 
 pub returns-in-Within-clause-err : goal.returns-in-Within-clause-err
 returns-in-Within-clause-err c =
     let set = c.args.set.now in
     let plans = c.args.plans.now.items in
     IfErr-weaker c.take_inside.result _ _ (λ e h rest.
-        subst (λ (s : Stage). Refutes set e (document_due set plans s (line_at c.args.line (meaning c.args.item.now) rest))) (sym c.in-Within.is) (h rest)) c.take_inside.ensures.err
+    subst (λ (s : Stage). Refutes set e (document_due set plans s (line_at c.args.line (meaning c.args.item.now) rest))) (sym c.in-Within.is) (h rest)) c.take_inside.ensures.err
 
 pub returns-in-Nothing-clause-err : goal.returns-in-Nothing-clause-err
 returns-in-Nothing-clause-err c =
@@ -43,7 +43,7 @@ returns-in-Nothing-clause-err c =
     let plans = c.args.plans.now.items in
     let e = Grammar c.args.line in
     λ rest.
-        let item = meaning c.args.item.now in
-        let at = line_at c.args.line item rest in
-        subst (λ (s : Stage). Refutes set e (document_due set plans s at)) (sym c.in-Nothing.is)
-        (halts_refutes set plans Nothing at e c.requires.right (past_end set (length plans) c.args.line (Some item) rest))
+    let item = meaning c.args.item.now in
+    let at = line_at c.args.line item rest in
+    subst (λ (s : Stage). Refutes set e (document_due set plans s at)) (sym c.in-Nothing.is)
+    (halts_refutes set plans Nothing at e c.requires.right (past_end set (length plans) c.args.line (Some item) rest))

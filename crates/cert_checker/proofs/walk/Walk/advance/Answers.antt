@@ -1,4 +1,4 @@
-use Rattle.std.proofs.Common.{◌≡◌, ℕ, ◌+◌, ◌-◌, ◌<◌, List, [], ◌∷◌, ◌++◌, length, sym, ap, ◌∙◌, arith, rules, ℤ, pos, ◌+ℤ◌, ◌≤ℤ◌, FitsSigned, w64, to_z, of_z, refl}
+use Rattle.std.proofs.Common.{◌≡◌, ◌-◌, ◌<◌, [], ◌∷◌, ◌++◌, length, ◌∙◌, arith, rules, pos, ◌+ℤ◌, ◌≤ℤ◌, FitsSigned, w64, refl}
 use Rattle.std.proofs.lemmas.Int.{ints, to_z-of_z}
 use Rattle.cert_checker.proofs.Walks.{next_among, walk_next, walk_down}
 use Rattle.cert_checker.proofs.walk.Walk.advance.Goals as goal

@@ -1,6 +1,5 @@
-use Rattle.std.proofs.Common.{◌≡◌, ℕ, ◌<◌, List, [], length, get_or, sym, ap, subst, ◌∙◌, arith, rules, ℤ}
+use Rattle.std.proofs.Common.{◌≡◌, ℕ, List, [], length, get_or, sym, ap, subst, ◌∙◌, arith, ℤ}
 use Rattle.std.proofs.lemmas.List.{get_or-replicate, length-replicate}
-use Rattle.tick_num.specs.declared.differences.Diff.{Diff}
 use Rattle.cert_checker.specs.TreeStack.{Stands}
 use Rattle.cert_checker.proofs.Levels.{stands_none}
 use Rattle.cert_checker.proofs.walk.Walk.begin.Goals as goal

@@ -1,10 +1,10 @@
-use Rattle.std.proofs.Common.{◌≡◌, ℕ, suc, ◌+◌, ◌-◌, ◌*◌, ◌<◌, ◌≤◌, List, [], ◌∷◌, ◌++◌, length, get_or, take, cond, sym, ap, subst, ◌∙◌, arith, rules, ℤ, pos, FitsSigned, w64, to_z, of_z}
+use Rattle.std.proofs.Common.{◌≡◌, ℕ, suc, ◌+◌, ◌-◌, ◌*◌, ◌<◌, List, length, get_or, cond, sym, ap, subst, ◌∙◌, arith, rules, ℤ, pos, FitsSigned, w64, to_z, of_z}
 use Rattle.std.specs.Prelude.{IfSome}
 use Rattle.std.proofs.lemmas.Int.{to_z-of_z}
 use Rattle.std.proofs.lemmas.List.{get_or_read}
 use Rattle.tick_num.specs.declared.differences.Diff.{Diff}
 use Rattle.sched_model.specs.ConstraintProblem.{order, base, decisions}
-use Rattle.constraint_set.specs.Decided.{names_round, NamesRound, NamesNone}
+use Rattle.constraint_set.specs.Decided.{names_round, NamesRound}
 use Rattle.cert_checker.specs.TreeStack.{at_}
 use Rattle.cert_checker.proofs.Forces.{force_length}
 use Rattle.cert_checker.proofs.Levels.{pop_some, uncounted, stands_pop}

@@ -1,4 +1,4 @@
-use Rattle.std.proofs.Common.{◌≡◌, ℕ, ◌+◌, ◌<◌, ◌^◌, List, [], ◌∷◌, ◌++◌, length, length-append, get_or, cond, sym, ap, ◌∙◌, arith, rules, ℤ, FitsSigned, w64, to_z, of_z}
+use Rattle.std.proofs.Common.{◌≡◌, ℕ, ◌+◌, ◌<◌, ◌^◌, List, [], ◌∷◌, ◌++◌, length, length-append, get_or, cond, ap, ◌∙◌, arith, rules, ℤ, FitsSigned, w64, to_z, of_z}
 use Rattle.std.proofs.lemmas.Int.{to_z-of_z}
 use Rattle.tick_num.specs.declared.differences.Diff.{Diff}
 use Rattle.sched_model.specs.ConstraintProblem.{order, decisions}

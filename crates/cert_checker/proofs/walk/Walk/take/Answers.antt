@@ -1,8 +1,7 @@
-use Rattle.std.proofs.Common.{◌≡◌, ℕ, Bool, sym, ap, subst, ◌∙◌}
+use Rattle.std.proofs.Common.{◌≡◌, sym, ap, subst, ◌∙◌}
 use Rattle.std.proofs.lemmas.Result.{IfErr-weaker, IfOk-weaker}
 use Rattle.proof_tree.specs.Items.{Item, Branch}
 use Rattle.proof_tree.specs.PlanLines.{meaning}
-use Rattle.proof_tree.specs.TreeLines.{Items}
 use Rattle.cert_checker.specs.Refusals.{Fails}
 use Rattle.cert_checker.specs.TreeStack.{walk_due, walk_leaf, line_at, behind_line}
 use Rattle.cert_checker.proofs.Walks.{branch_due}
