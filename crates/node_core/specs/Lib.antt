@@ -1,0 +1,6 @@
+pub mod Lookup
+pub mod Registers
+pub mod Running
+pub mod Rules
+pub mod Conditions
+pub mod Fits

@@ -1,0 +1,13 @@
+//! Nodes: a node is Listening, Synced or Coasting, each a type of its own, so that only a node that heard its round's beacon can send.
+//! docs/NODES.md has the rules.
+#![tactic(auto)]
+
+mod lookup;
+mod packet;
+mod registers;
+mod running;
+mod states;
+
+pub use packet::{Inputs, Packet, Values};
+pub use registers::Run;
+pub use states::{Coasting, Listening, Missed, Synced};

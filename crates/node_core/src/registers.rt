@@ -1,0 +1,232 @@
+//! The registers of a node, and its run in progress.
+
+ghost use Rattle.std.specs.Prelude.{◌≡◌, ◌+◌, ◌<◌, ◌≤◌, ◌++◌, [], All, IfOk, None, false, Option, Some, is_some, length, map, nat_lt, replicate, slice_index_or, slice_set};
+ghost use Rattle.runtime_model.specs.Inputs.{given};
+ghost use Rattle.std.specs.Option.{option_copied};
+ghost use Rattle.node_core.specs.Fits.{MessageFits, RowFits, input_count};
+ghost use Rattle.node_core.specs.Registers.{emptied_at, emptied_for, ended_with, filled, inputs_at, inputs_from, inputs_of, no_ins, no_outs, no_registers, out_of, row_of, value_at_end, values_of};
+
+use crate::lookup::consumer_place;
+use crate::packet::{Inputs, Values};
+use arrayvec::ArrayVec;
+use node_tables::OwnMessage;
+use std::alloc::{AllocError, Global};
+use std::marker::Model;
+
+/// How many tasks there are at most; they are numbered from 0.
+const TASKS: usize = 1024;
+
+/// How many messages there are at most; they are numbered from 0.
+const MESSAGES: usize = 512;
+
+/// The run in progress of a node.
+#[derive(Clone, Copy, Drop)]
+pub struct Run {
+    /// The number of its task.
+    pub task: u32,
+    /// What its end will answer.
+    pub value: i64,
+}
+
+/// The in registers of a message, one for each of its consumers on the node.
+/// All that are full have the values of the last packet.
+#[derive(Drop)]
+pub(crate) struct InRow {
+    values: Values,
+    full: ArrayVec<bool, 16>,
+}
+
+impl Model for InRow {
+    ghost use Rattle.std.specs.Prelude.{List, None, Option, Some, cond, map, ℤ};
+
+    ghost Value = { List (Option (List ℤ)) };
+
+    ghost view = { λ r. map (λ f. cond f (Some r.values) None) r.full.items };
+}
+
+impl InRow {
+    /// Empty registers.
+    fn new() -> Self
+        ensures { result ≡ [] }
+    {
+        InRow {
+            values: Values::new(),
+            full: ArrayVec::new(),
+        }
+    }
+
+    /// Empties all.
+    fn empty(&mut self)
+        ensures { self.new ≡ [] }
+    {
+        self.full.clear();
+    }
+
+    /// Fills the registers of so many consumers with the values of a packet.
+    fn fill(&mut self, count: usize, values: &Values)
+        requires { count ≤ 16 }
+        ensures { self.new ≡ replicate count (Some values.now) }
+    {
+        self.values.copy_from(values);
+        self.full.clear();
+        for _ in 0..count {
+            self.full.push(true);
+        }
+    }
+
+    /// The values of the register at a place, where it is full.
+    fn get(&self, place: usize) -> Option<&[i64]>
+        ensures { option_copied result ≡ slice_index_or self.now place None }
+    {
+        match self.full.as_slice().get(place) {
+            Some(true) => Some(self.values.as_slice()),
+            Some(false) | None => None,
+        }
+    }
+
+    /// Empties the register at a place.
+    fn take(&mut self, place: usize)
+        ensures { self.new ≡ slice_set self.old place None }
+    {
+        clear_at(&mut self.full, place);
+    }
+}
+
+/// Makes the flag at a place false, where there is one.
+fn clear_at(flags: &mut ArrayVec<bool, 16>, place: usize)
+    ensures { flags.new.items ≡ slice_set flags.old.items place false }
+{
+    if let Some(flag) = flags.get_mut(place) {
+        *flag = false;
+    }
+}
+
+/// The registers of a node. Contracts see them by the numbers of tasks and messages.
+#[derive(Drop)]
+pub(crate) struct Registers {
+    outs: Vec<Option<i64>>,
+    ins: Vec<InRow>,
+    run: Option<Run>,
+}
+
+impl Model for Registers {
+    ghost use Rattle.std.specs.Prelude.{◌≡◌, length};
+    ghost use Rattle.node_core.specs.Registers.{RegistersSeen};
+
+    ghost Value = { RegistersSeen };
+
+    ghost view = { λ n. record { outs = n.outs.items; ins = n.ins.items; run = n.run } };
+
+    ghost invariant = { λ n. (length n.outs.items ≡ 1024) × (length n.ins.items ≡ 512) };
+}
+
+impl Registers {
+    /// Empty registers, with all the memory that they will need.
+    pub(crate) fn make(alloc: Global) -> Result<Self, AllocError>
+        ensures { IfOk result (λ g. g ≡ no_registers) }
+    {
+        Ok(Registers {
+            outs: no_outs(alloc)?,
+            ins: no_rows(alloc)?,
+            run: None,
+        })
+    }
+
+    /// Empties all registers, and ends the run in progress.
+    pub(crate) fn empty(&mut self)
+        ensures { self.new ≡ no_registers }
+    {
+        empty_outs(&mut self.outs);
+        empty_rows(&mut self.ins);
+        self.run = None;
+    }
+
+    /// The out register of a task.
+    fn out(&self, task: u32) -> Option<i64>
+        requires { task < 1024 }
+        ensures { result ≡ out_of self.now task }
+    {
+        self.outs[task as usize]
+    }
+
+    /// The values of the out registers of these tasks, where all are full.
+    pub(crate) fn values_of(&self, tasks: &[u32]) -> Option<Values>
+        requires few { length tasks.now ≤ 4 }
+        requires known { All (λ a. a < 1024) tasks.now }
+        ensures { result ≡ values_of self.now tasks.now }
+    {
+        let mut values = Values::new();
+        for task in tasks {
+            match self.out(*task) {
+                Some(value) => values.push(value),
+                None => return None,
+            }
+        }
+        Some(values)
+    }
+
+    /// Fills the in registers of the consumers of a message.
+    pub(crate) fn fill(&mut self, message: &OwnMessage, values: &Values)
+        requires number { message.now.number < 512 }
+        requires few { length message.now.consumers ≤ 16 }
+        ensures { self.new ≡ filled message.now values.now self.old }
+    {
+        let count = message.consumers.as_slice().len();
+        let row = &mut self.ins[message.number as usize];
+        row.fill(count, values);
+    }
+
+    /// Ends the run of a task, where it is in progress: its value goes to the task's out register.
+    pub(crate) fn end(&mut self, task: u32) -> Option<i64>
+        requires { task < 1024 }
+        ensures state { self.new ≡ ended_with task (value_at_end task self.old.run) self.old }
+        ensures value { result ≡ value_at_end task self.old.run }
+    {
+        match self.run {
+            Some(run) if run.task == task => {
+                self.outs[task as usize] = Some(run.value);
+                self.run = None;
+                Some(run.value)
+            }
+            _ => None,
+        }
+    }
+}
+
+/// Empty out registers for every task number.
+fn no_outs(alloc: Global) -> Result<Vec<Option<i64>>, AllocError>
+    ensures { IfOk result (λ outs. outs.items ≡ no_outs) }
+{
+    let mut outs = Vec::with_capacity(alloc, TASKS)?;
+    for _ in 0..TASKS {
+        outs.push(None)?;
+    }
+    Ok(outs)
+}
+
+/// Empty in registers for every message number.
+fn no_rows(alloc: Global) -> Result<Vec<InRow>, AllocError>
+    ensures { IfOk result (λ rows. rows.items ≡ no_ins) }
+{
+    let mut rows = Vec::with_capacity(alloc, MESSAGES)?;
+    for _ in 0..MESSAGES {
+        rows.push(InRow::new())?;
+    }
+    Ok(rows)
+}
+
+/// Empties the out registers.
+fn empty_outs(outs: &mut [Option<i64>])
+    ensures { outs.new ≡ replicate (length outs.old) None }
+{
+    outs.fill(None);
+}
+
+/// Empties the in registers.
+fn empty_rows(rows: &mut [InRow])
+    ensures { rows.new ≡ replicate (length rows.old) [] }
+{
+    for row in rows {
+        row.empty();
+    }
+}

@@ -1,0 +1,179 @@
+//! The three states of a node.
+
+ghost use Rattle.std.specs.Prelude.{◌≡◌, ◌<◌, IfOk, cond};
+ghost use Rattle.node_core.specs.Conditions.{MayHear, MayMiss, MayPass};
+ghost use Rattle.node_core.specs.Fits.{TableFits};
+ghost use Rattle.node_core.specs.Rules.{announced, coasted, first_heard, heard, passed};
+ghost use Rattle.node_core.specs.declared.states.Missed.TheVariants.{Coasted, StoodDown};
+
+use crate::registers::Registers;
+use crate::running::Running;
+use beacon_codec::Beacon;
+use node_tables::NodeTable;
+use std::alloc::{AllocError, Global};
+use std::marker::Model;
+use tick_num::Time;
+
+/// A node that waits for a beacon: it does nothing, and its registers are empty.
+/// Contracts see its table.
+#[derive(Drop)]
+pub struct Listening {
+    kept: Running,
+}
+
+/// A node that heard the last beacon. Contracts see where it stands, and its registers.
+#[derive(Drop)]
+pub struct Synced {
+    kept: Running,
+}
+
+/// A node that missed the last beacon and heard the one before it. Contracts see the same as of a Synced one.
+#[derive(Drop)]
+pub struct Coasting {
+    kept: Running,
+}
+
+/// What a Synced node is after a beacon that it missed.
+#[derive(Drop)]
+pub enum Missed {
+    /// It goes on for one round.
+    Coasted(Coasting),
+    /// The last beacon that it heard announced a change, so it doesn't know its mode any more.
+    StoodDown(Listening),
+}
+
+impl Model for Listening {
+    ghost use Rattle.std.specs.Prelude.{◌≡◌};
+    ghost use Rattle.node_tables.specs.declared.tables.NodeTable.{NodeTable};
+    ghost use Rattle.node_core.specs.Registers.{no_registers};
+
+    ghost Value = { NodeTable };
+
+    ghost view = { λ n. n.kept.table };
+
+    ghost invariant = { λ n. n.kept.registers ≡ no_registers };
+}
+
+impl Model for Synced {
+    ghost use Rattle.node_core.specs.Running.{RunningNode};
+
+    ghost Value = { RunningNode };
+
+    ghost view = { λ n. n.kept };
+}
+
+impl Model for Coasting {
+    ghost use Rattle.node_core.specs.Running.{RunningNode};
+
+    ghost Value = { RunningNode };
+
+    ghost view = { λ n. n.kept };
+}
+
+impl Listening {
+    /// A node with this table, which is within the limits. Takes all the memory that the node will need.
+    pub fn make(alloc: Global, table: NodeTable) -> Result<Self, AllocError>
+        requires { TableFits table }
+        ensures { IfOk result (λ n. n ≡ table) }
+    {
+        let registers = Registers::make(alloc)?;
+        Ok(Listening {
+            kept: Running::new(table, registers),
+        })
+    }
+
+    /// Hears a beacon, and goes to the start of its round.
+    pub fn hear(mut self, b: Beacon) -> Synced
+        requires { MayHear self b }
+        ensures { result ≡ first_heard self b }
+    {
+        self.kept.hear_first(b);
+        Synced { kept: self.kept }
+    }
+
+    /// Restarts: a Listening node stays as it is.
+    pub fn restart(self) -> Listening
+        ensures { result ≡ self }
+    {
+        self
+    }
+}
+
+impl Synced {
+    /// Hears the next beacon, and goes to the start of its round.
+    /// A beacon of a round of another mode than the node's empties the registers and ends the run in progress.
+    pub fn hear(mut self, b: Beacon) -> Synced
+        requires { MayHear self.table b }
+        ensures { result ≡ heard self b }
+    {
+        self.kept.hear(b);
+        Synced { kept: self.kept }
+    }
+
+    /// Misses the beacon of the next round, to whose start the node has come.
+    pub fn miss(mut self) -> Missed
+        requires { MayMiss self }
+        ensures { result ≡ cond (announced self) (StoodDown self.table) (Coasted (coasted self)) }
+    {
+        if self.kept.announced() {
+            self.kept.empty();
+            Missed::StoodDown(Listening { kept: self.kept })
+        } else {
+            self.kept.coast();
+            Missed::Coasted(Coasting { kept: self.kept })
+        }
+    }
+
+    /// Restarts: the registers are empty, and the run in progress ends without an answer.
+    pub fn restart(mut self) -> Listening
+        ensures { result ≡ self.table }
+    {
+        self.kept.empty();
+        Listening { kept: self.kept }
+    }
+
+    /// Lets `ticks` pass, at least 0, not beyond the next round's start.
+    /// The end of a hyperperiod that the node knows to drain empties the registers and ends the run in progress.
+    pub fn pass(&mut self, ticks: Time)
+        requires { MayPass self.old ticks }
+        ensures { self.new ≡ passed self.old ticks }
+    {
+        self.kept.pass(ticks);
+    }
+}
+
+impl Coasting {
+    /// Hears the next beacon, as a Synced node does.
+    pub fn hear(mut self, b: Beacon) -> Synced
+        requires { MayHear self.table b }
+        ensures { result ≡ heard self b }
+    {
+        self.kept.hear(b);
+        Synced { kept: self.kept }
+    }
+
+    /// Misses a second beacon: the registers are empty, and the run in progress ends without an answer.
+    pub fn miss(mut self) -> Listening
+        requires { MayMiss self }
+        ensures { result ≡ self.table }
+    {
+        self.kept.empty();
+        Listening { kept: self.kept }
+    }
+
+    /// Restarts, as a Synced node does.
+    pub fn restart(mut self) -> Listening
+        ensures { result ≡ self.table }
+    {
+        self.kept.empty();
+        Listening { kept: self.kept }
+    }
+
+    /// Lets `ticks` pass, as for a Synced node.
+    pub fn pass(&mut self, ticks: Time)
+        requires { MayPass self.old ticks }
+        ensures { self.new ≡ passed self.old ticks }
+    {
+        self.kept.pass(ticks);
+    }
+}
