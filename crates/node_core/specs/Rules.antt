@@ -6,6 +6,7 @@ use Rattle.task_body.specs.Tally.{answer, numbers_after_fire}
 use Rattle.runtime_model.specs.Timeline.{PlainPhase, steady, drain}
 use Rattle.runtime_model.specs.Placement.{placed}
 use Rattle.node_tables.specs.declared.tables.NodeTable.{NodeTable}
+use Rattle.node_tables.specs.declared.tables.ModeTable.{ModeTable}
 use Rattle.node_tables.specs.declared.tables.OwnTask.{OwnTask}
 use Rattle.node_tables.specs.declared.tables.OwnMessage.{OwnMessage}
 use Rattle.node_tables.specs.declared.tables.OwnSlot.{OwnSlot}
@@ -89,10 +90,10 @@ phase_known n = cond n.draining (drain n.heard.mode) steady
 abbrev pub slot_placed : RunningNode → OwnSlot → Bool
 slot_placed n s = placed n.opening (phase_known n) (int_le (pos 0) s.release)
 
--- the own message of the slot with this number in the node's round, with its slot
-abbrev pub message_in : RunningNode → Option OwnSlot → Option OwnMessage
-message_in n None = None
-message_in n (Some s) = own_message (mode_of n).messages s.message
+-- the own message of an own slot of a mode
+abbrev pub message_in : ModeTable → Option OwnSlot → Option OwnMessage
+message_in m None = None
+message_in m (Some s) = own_message m.messages s.message
 
 -- the packet of a message with these values
 abbrev pub packet_of : OwnMessage → Option (List ℤ) → Option Packet
@@ -123,9 +124,9 @@ abbrev pub registers_with : Option OwnMessage → Packet → RegistersSeen → R
 registers_with None packet g = g
 registers_with (Some m) packet g = cond (is_taken m) (filled m packet.values g) g
 
--- the own message of the slot with this number, where it is one
+-- the own message of the slot with this number in the node's round
 abbrev pub message_of_slot : RunningNode → ℕ → Option OwnMessage
-message_of_slot n slot = message_in n (own_slot (round_of n) slot)
+message_of_slot n slot = message_in (mode_of n) (own_slot (round_of n) slot)
 
 -- whether the node takes the packet of the slot
 abbrev pub takes : RunningNode → ℕ → Bool

@@ -5,9 +5,10 @@ ghost use Rattle.runtime_model.specs.Inputs.{given};
 ghost use Rattle.std.specs.Option.{option_copied};
 ghost use Rattle.node_core.specs.Fits.{MessageFits, RowFits, input_count};
 ghost use Rattle.node_core.specs.Registers.{emptied_at, emptied_for, ended_with, filled, inputs_at, inputs_from, inputs_of, no_ins, no_outs, no_registers, out_of, row_of, value_at_end, values_of};
+ghost use Rattle.node_core.specs.Rules.{packet_from};
 
-use crate::lookup::consumer_place;
-use crate::packet::{Inputs, Values};
+use crate::lookup::{consumer_place, sends};
+use crate::packet::{Inputs, Packet, Values};
 use arrayvec::ArrayVec;
 use node_tables::OwnMessage;
 use std::alloc::{AllocError, Global};
@@ -163,6 +164,23 @@ impl Registers {
             }
         }
         Some(values)
+    }
+
+    /// The packet of a message, where the node sends it and the out registers of its producers are full.
+    pub(crate) fn packet_of(&self, message: &OwnMessage) -> Option<Packet>
+        requires { MessageFits message.now }
+        ensures { result ≡ packet_from self.now (Some message.now) }
+    {
+        if !sends(message) {
+            return None;
+        }
+        match self.values_of(message.producers.as_slice()) {
+            Some(values) => Some(Packet {
+                message: message.number,
+                values,
+            }),
+            None => None,
+        }
     }
 
     /// Fills the in registers of the consumers of a message.

@@ -2,13 +2,15 @@
 
 ghost use Rattle.std.specs.Prelude.{◌&&◌, ◌+ℤ◌, ◌-ℤ◌, ◌<ℤ◌, ◌≡◌, ◌≤ℤ◌, pos};
 ghost use Rattle.std.specs.Ordering.{int_eq};
-ghost use Rattle.node_core.specs.Conditions.{MayHear, MayMiss, MayPass};
+ghost use Rattle.runtime_model.specs.Placement.{placed};
+ghost use Rattle.node_core.specs.Conditions.{MayHear, MayMiss, MayPass, MayReceive};
 ghost use Rattle.node_core.specs.Fits.{TableFits};
 ghost use Rattle.node_core.specs.Registers.{no_registers};
-ghost use Rattle.node_core.specs.Rules.{announced, coasted, first_heard, heard, passed, turned};
+ghost use Rattle.node_core.specs.Rules.{announced, coasted, first_heard, heard, passed, phase_known, received, sent, takes, turned};
 ghost use Rattle.node_core.specs.Running.{mode_of};
 
-use crate::lookup::{mode_at, spot_of};
+use crate::lookup::{message_of_slot, mode_at, own_message, own_slot, round_at, spot_of};
+use crate::packet::Packet;
 use crate::registers::Registers;
 use beacon_codec::Beacon;
 use node_tables::NodeTable;
@@ -142,6 +144,53 @@ impl Running {
         } else {
             self.turn(rest_of(tick, hyper));
         }
+    }
+
+    /// Whether the node's hyperperiod places an entry, where it is of an instance that is released in the hyperperiod or later.
+    fn is_placed(&self, own: bool) -> bool
+        ensures { result ≡ placed self.now.opening (phase_known self.now) own }
+    {
+        if self.opening {
+            own
+        } else if self.draining {
+            !own
+        } else {
+            true
+        }
+    }
+
+    /// What the node sends in a slot.
+    pub(crate) fn slot(&self, slot: u8) -> Option<Packet>
+        ensures { result ≡ sent self.now slot }
+    {
+        let mode = mode_at(&self.table, self.mode);
+        let Some(own) = own_slot(round_at(mode, self.round), slot) else {
+            return None;
+        };
+        if !self.is_placed(own.release >= 0) {
+            return None;
+        }
+        let Some(message) = own_message(mode, own.message) else {
+            return None;
+        };
+        self.registers.packet_of(message)
+    }
+
+    /// Takes the packet of a slot, where a task of the node consumes it.
+    pub(crate) fn receive(&mut self, slot: u8, packet: &Packet) -> bool
+        requires { MayReceive self.old slot packet.now }
+        ensures state { self.new ≡ received self.old slot packet.now }
+        ensures taken { result ≡ takes self.old slot }
+    {
+        let mode = mode_at(&self.table, self.mode);
+        let Some(message) = message_of_slot(mode, self.round, slot) else {
+            return false;
+        };
+        if message.consumers.as_slice().is_empty() {
+            return false;
+        }
+        self.registers.fill(message, &packet.values);
+        true
     }
 
     /// Moves to a tick of the same hyperperiod.

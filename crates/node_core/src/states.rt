@@ -1,11 +1,12 @@
 //! The three states of a node.
 
 ghost use Rattle.std.specs.Prelude.{◌≡◌, ◌<◌, IfOk, cond};
-ghost use Rattle.node_core.specs.Conditions.{MayHear, MayMiss, MayPass};
+ghost use Rattle.node_core.specs.Conditions.{MayHear, MayMiss, MayPass, MayReceive, MayUseSlot};
 ghost use Rattle.node_core.specs.Fits.{TableFits};
-ghost use Rattle.node_core.specs.Rules.{announced, coasted, first_heard, heard, passed};
+ghost use Rattle.node_core.specs.Rules.{announced, coasted, first_heard, heard, passed, received, sent, takes};
 ghost use Rattle.node_core.specs.declared.states.Missed.TheVariants.{Coasted, StoodDown};
 
+use crate::packet::Packet;
 use crate::registers::Registers;
 use crate::running::Running;
 use beacon_codec::Beacon;
@@ -139,6 +140,25 @@ impl Synced {
         ensures { self.new ≡ passed self.old ticks }
     {
         self.kept.pass(ticks);
+    }
+
+    /// What the node sends in the slot, from 1 to 32, of the round whose beacon it has just heard.
+    /// None where the slot isn't one of its own or isn't placed, where it doesn't send the slot's message,
+    /// or where the out register of a producer is empty.
+    pub fn slot(&self, slot: u8) -> Option<Packet>
+        requires { MayUseSlot self.now slot }
+        ensures { result ≡ sent self.now slot }
+    {
+        self.kept.slot(slot)
+    }
+
+    /// Takes the packet that came in the slot, and answers whether a task of the node consumes its message.
+    pub fn receive(&mut self, slot: u8, packet: &Packet) -> bool
+        requires { MayReceive self.old slot packet.now }
+        ensures state { self.new ≡ received self.old slot packet.now }
+        ensures taken { result ≡ takes self.old slot }
+    {
+        self.kept.receive(slot, packet)
     }
 }
 
