@@ -1,3 +1,4 @@
 pub mod RegisterLemmas
 pub mod NodeLemmas
 pub mod MessageLemmas
+pub mod InputLemmas

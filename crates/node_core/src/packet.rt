@@ -1,7 +1,6 @@
 //! Packets, and the inputs of a task.
 
-ghost use Rattle.std.specs.Prelude.{◌≡◌, ◌+◌, ◌<◌, ◌≤◌, ◌++◌, ◌∷◌, [], length};
-ghost use Rattle.runtime_model.specs.Inputs.{given};
+ghost use Rattle.std.specs.Prelude.{◌≡◌, ◌+◌, ◌<◌, ◌≤◌, ◌++◌, ◌∷◌, [], None, Some, length, map, replicate};
 
 use arrayvec::ArrayVec;
 use std::marker::Model;
@@ -91,12 +90,24 @@ impl Inputs {
         }
     }
 
-    /// Adds an input at the end.
-    pub(crate) fn push(&mut self, input: Option<i64>)
-        requires { length self.old < 64 }
-        ensures { self.new ≡ self.old ++ input ∷ [] }
+    /// Adds these values at the end.
+    pub(crate) fn push_values(&mut self, values: &[i64])
+        requires { length self.old + length values.now ≤ 64 }
+        ensures { self.new ≡ self.old ++ map (λ x. Some x) values.now }
     {
-        self.items.push(input);
+        for value in values {
+            self.items.push(Some(*value));
+        }
+    }
+
+    /// Adds so many absent inputs at the end.
+    pub(crate) fn push_absent(&mut self, count: usize)
+        requires { length self.old + count ≤ 64 }
+        ensures { self.new ≡ self.old ++ replicate count None }
+    {
+        for _ in 0..count {
+            self.items.push(None);
+        }
     }
 
     /// The inputs, in order.

@@ -1,10 +1,9 @@
 //! The registers of a node, and its run in progress.
 
-ghost use Rattle.std.specs.Prelude.{◌≡◌, ◌+◌, ◌<◌, ◌≤◌, ◌++◌, [], All, IfOk, None, false, Option, Some, is_some, length, map, nat_lt, replicate, slice_index_or, slice_set};
-ghost use Rattle.runtime_model.specs.Inputs.{given};
+ghost use Rattle.std.specs.Prelude.{◌≡◌, ◌+◌, ◌<◌, ◌≤◌, ◌++◌, [], All, IfOk, None, false, Option, Some, fold, length, replicate, slice_index_or, slice_set};
 ghost use Rattle.std.specs.Option.{option_copied};
-ghost use Rattle.node_core.specs.Fits.{MessageFits, RowFits, input_count};
-ghost use Rattle.node_core.specs.Registers.{emptied_at, emptied_for, ended_with, filled, inputs_at, inputs_from, inputs_of, no_ins, no_outs, no_registers, out_of, row_of, value_at_end, values_of};
+ghost use Rattle.node_core.specs.Fits.{MessageFits};
+ghost use Rattle.node_core.specs.Registers.{begun, emptied_for, ended_with, filled, inputs_from, inputs_of, no_ins, no_outs, no_registers, out_of, value_at_end, values_of};
 ghost use Rattle.node_core.specs.Rules.{packet_from};
 
 use crate::lookup::{consumer_place, sends};
@@ -192,6 +191,66 @@ impl Registers {
         let count = message.consumers.as_slice().len();
         let row = &mut self.ins[message.number as usize];
         row.fill(count, values);
+    }
+
+    /// Adds the inputs of a task from a message at the end of others.
+    fn add_inputs(&self, message: &OwnMessage, task: u32, inputs: &mut Inputs)
+        requires number { message.now.number < 512 }
+        requires room { length inputs.old + length (inputs_from self.now.ins task message.now) ≤ 64 }
+        ensures { inputs.new ≡ inputs.old ++ inputs_from self.now.ins task message.now }
+    {
+        let Some(place) = consumer_place(message, task) else {
+            return;
+        };
+        let row = &self.ins[message.number as usize];
+        match row.get(place) {
+            Some(values) => inputs.push_values(values),
+            None => inputs.push_absent(message.producers.as_slice().len()),
+        }
+    }
+
+    /// The inputs of a task, by the messages of its mode.
+    pub(crate) fn inputs_of(&self, messages: &[OwnMessage], task: u32) -> Inputs
+        requires numbers { All MessageFits messages.now }
+        requires room { length (inputs_of self.now.ins task messages.now) ≤ 64 }
+        ensures { result ≡ inputs_of self.now.ins task messages.now }
+    {
+        let mut inputs = Inputs::new();
+        for message in messages {
+            self.add_inputs(message, task, &mut inputs);
+        }
+        inputs
+    }
+
+    /// Empties the in register of a task for a message.
+    fn take_input(&mut self, message: &OwnMessage, task: u32)
+        requires { message.now.number < 512 }
+        ensures { self.new ≡ record self.old { ins = emptied_for task self.old.ins message.now } }
+    {
+        let Some(place) = consumer_place(message, task) else {
+            return;
+        };
+        let row = &mut self.ins[message.number as usize];
+        row.take(place);
+    }
+
+    /// Empties the in registers of a task.
+    fn take_inputs(&mut self, messages: &[OwnMessage], task: u32)
+        requires { All MessageFits messages.now }
+        ensures { self.new ≡ record self.old { ins = fold (emptied_for task) self.old.ins messages.now } }
+    {
+        for message in messages {
+            self.take_input(message, task);
+        }
+    }
+
+    /// Begins a run of a task, which has taken its in registers.
+    pub(crate) fn begin(&mut self, messages: &[OwnMessage], task: u32, value: i64)
+        requires { All MessageFits messages.now }
+        ensures { self.new ≡ begun task value messages.now self.old }
+    {
+        self.take_inputs(messages, task);
+        self.run = Some(Run { task, value });
     }
 
     /// Ends the run of a task, where it is in progress: its value goes to the task's out register.

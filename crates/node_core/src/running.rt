@@ -1,20 +1,21 @@
 //! A node that runs: where it stands, and its registers.
 
-ghost use Rattle.std.specs.Prelude.{◌&&◌, ◌+ℤ◌, ◌-ℤ◌, ◌<ℤ◌, ◌≡◌, ◌≤ℤ◌, pos};
+ghost use Rattle.std.specs.Prelude.{◌&&◌, ◌+ℤ◌, ◌-ℤ◌, ◌<◌, ◌<ℤ◌, ◌≡◌, ◌≤ℤ◌, pos};
 ghost use Rattle.std.specs.Ordering.{int_eq};
 ghost use Rattle.runtime_model.specs.Placement.{placed};
-ghost use Rattle.node_core.specs.Conditions.{MayHear, MayMiss, MayPass, MayReceive};
+ghost use Rattle.node_core.specs.Conditions.{MayHear, MayMiss, MayPass, MayReceive, MayStart};
 ghost use Rattle.node_core.specs.Fits.{TableFits};
 ghost use Rattle.node_core.specs.Registers.{no_registers};
-ghost use Rattle.node_core.specs.Rules.{announced, coasted, first_heard, heard, passed, phase_known, received, sent, takes, turned};
+ghost use Rattle.node_core.specs.Rules.{announced, body_after, coasted, end_answer, ended, first_heard, heard, passed, phase_known, received, sent, start_answer, started, starts, takes, turned};
 ghost use Rattle.node_core.specs.Running.{mode_of};
 
-use crate::lookup::{message_of_slot, mode_at, own_message, own_slot, round_at, spot_of};
-use crate::packet::Packet;
+use crate::lookup::{message_of_slot, mode_at, own_message, own_slot, own_task, round_at, spot_of};
+use crate::packet::{Inputs, Packet};
 use crate::registers::Registers;
 use beacon_codec::Beacon;
 use node_tables::NodeTable;
 use std::marker::Model;
+use task_body::Tally;
 use tick_num::Time;
 
 /// What is kept of a node in any state. A Listening node keeps it for its table and the room of its registers.
@@ -191,6 +192,42 @@ impl Running {
         }
         self.registers.fill(message, &packet.values);
         true
+    }
+
+    /// Whether the start of a task at the node's tick is placed.
+    fn starts(&self, task: u32) -> bool
+        ensures { result ≡ starts self.now task }
+    {
+        match own_task(mode_at(&self.table, self.mode), task) {
+            Some(own) => self.is_placed(own.offset <= self.tick),
+            None => false,
+        }
+    }
+
+    /// Starts a task, where its start is placed: the body is fired with the inputs from its in registers.
+    pub(crate) fn start(&mut self, task: u32, body: &mut Tally) -> Option<Inputs>
+        requires { MayStart self.old task }
+        ensures state { self.new ≡ started self.old task body.old }
+        ensures answer { result ≡ start_answer self.old task }
+        ensures body { body.new ≡ body_after self.old task body.old }
+    {
+        if !self.starts(task) {
+            return None;
+        }
+        let messages = mode_at(&self.table, self.mode).messages.as_slice();
+        let inputs = self.registers.inputs_of(messages, task);
+        let value = body.fire(task, inputs.as_slice());
+        self.registers.begin(messages, task, value);
+        Some(inputs)
+    }
+
+    /// Ends the run of a task, where it is in progress.
+    pub(crate) fn end(&mut self, task: u32) -> Option<i64>
+        requires { task < 1024 }
+        ensures state { self.new ≡ ended self.old task }
+        ensures value { result ≡ end_answer self.old task }
+    {
+        self.registers.end(task)
     }
 
     /// Moves to a tick of the same hyperperiod.

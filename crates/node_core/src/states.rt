@@ -1,18 +1,19 @@
 //! The three states of a node.
 
 ghost use Rattle.std.specs.Prelude.{◌≡◌, ◌<◌, IfOk, cond};
-ghost use Rattle.node_core.specs.Conditions.{MayHear, MayMiss, MayPass, MayReceive, MayUseSlot};
+ghost use Rattle.node_core.specs.Conditions.{MayHear, MayMiss, MayPass, MayReceive, MayStart, MayUseSlot};
 ghost use Rattle.node_core.specs.Fits.{TableFits};
-ghost use Rattle.node_core.specs.Rules.{announced, coasted, first_heard, heard, passed, received, sent, takes};
+ghost use Rattle.node_core.specs.Rules.{announced, body_after, coasted, end_answer, ended, first_heard, heard, passed, received, sent, start_answer, started, takes};
 ghost use Rattle.node_core.specs.declared.states.Missed.TheVariants.{Coasted, StoodDown};
 
-use crate::packet::Packet;
+use crate::packet::{Inputs, Packet};
 use crate::registers::Registers;
 use crate::running::Running;
 use beacon_codec::Beacon;
 use node_tables::NodeTable;
 use std::alloc::{AllocError, Global};
 use std::marker::Model;
+use task_body::Tally;
 use tick_num::Time;
 
 /// A node that waits for a beacon: it does nothing, and its registers are empty.
@@ -160,6 +161,27 @@ impl Synced {
     {
         self.kept.receive(slot, packet)
     }
+
+    /// Starts a task at the node's tick, where the start is placed: fires the body with the inputs from the task's in registers,
+    /// which are then empty, and begins a run. Answers the inputs. A start that isn't placed changes nothing.
+    pub fn start(&mut self, task: u32, body: &mut Tally) -> Option<Inputs>
+        requires { MayStart self.old task }
+        ensures state { self.new ≡ started self.old task body.old }
+        ensures answer { result ≡ start_answer self.old task }
+        ensures body { body.new ≡ body_after self.old task body.old }
+    {
+        self.kept.start(task, body)
+    }
+
+    /// Ends the run of the task: its value goes to the task's out register, and is the answer.
+    /// None, and nothing changes, exactly where no run of the task is in progress. Tasks are below 1,024.
+    pub fn end(&mut self, task: u32) -> Option<i64>
+        requires { task < 1024 }
+        ensures state { self.new ≡ ended self.old task }
+        ensures value { result ≡ end_answer self.old task }
+    {
+        self.kept.end(task)
+    }
 }
 
 impl Coasting {
@@ -195,5 +217,26 @@ impl Coasting {
         ensures { self.new ≡ passed self.old ticks }
     {
         self.kept.pass(ticks);
+    }
+
+    /// Starts a task at the node's tick, where the start is placed: fires the body with the inputs from the task's in registers,
+    /// which are then empty, and begins a run. Answers the inputs. A start that isn't placed changes nothing.
+    pub fn start(&mut self, task: u32, body: &mut Tally) -> Option<Inputs>
+        requires { MayStart self.old task }
+        ensures state { self.new ≡ started self.old task body.old }
+        ensures answer { result ≡ start_answer self.old task }
+        ensures body { body.new ≡ body_after self.old task body.old }
+    {
+        self.kept.start(task, body)
+    }
+
+    /// Ends the run of the task: its value goes to the task's out register, and is the answer.
+    /// None, and nothing changes, exactly where no run of the task is in progress. Tasks are below 1,024.
+    pub fn end(&mut self, task: u32) -> Option<i64>
+        requires { task < 1024 }
+        ensures state { self.new ≡ ended self.old task }
+        ensures value { result ≡ end_answer self.old task }
+    {
+        self.kept.end(task)
     }
 }

@@ -26,5 +26,5 @@ invariant_of-self c =
       table = c.self.invariant.table;
       spot = c.self.invariant.spot;
       ins = subst (λ (g : RegistersSeen). InsFit (mode_at c.self.inside.table c.self.inside.mode).messages g.ins) (sym c.fill.ensures)
-        (received_fits (the_view c.self.inside) c.args.slot c.args.packet.now c.in-Some.message.now c.self.invariant may found);
+          (received_fits (the_view c.self.inside) c.args.slot c.args.packet.now c.in-Some.message.now c.self.invariant may found);
     }

@@ -1,0 +1,25 @@
+use Rattle.std.proofs.Common.{ap, ◌∙◌, sym, subst}
+use Rattle.node_tables.specs.declared.tables.ModeTable.{ModeTable}
+use Rattle.node_core.specs.contracts.running.Running.{the_view}
+use Rattle.node_core.specs.Registers.{RegistersSeen}
+use Rattle.node_core.specs.Running.{RunningNode, mode_of}
+use Rattle.node_core.specs.Conditions.{MayStart}
+use Rattle.node_core.specs.Fits.{InsFit}
+use Rattle.node_core.proofs.InputLemmas.{few_inputs, taken_fit, task_known}
+use Rattle.node_core.proofs.running.Running.start.Goals as goal
+
+pub inputs_of-inputs-requires-clause-room : goal.inputs_of-inputs-requires-clause-room
+inputs_of-inputs-requires-clause-room c =
+    few_inputs (the_view c.self.inside) c.args.task c.as_slice-messages.result.now c.self.invariant (c.as_slice-messages.ensures ∙ ap (λ (m : ModeTable). m.messages) c.mode_at.ensures)
+
+pub fire-value-requires : goal.fire-value-requires
+fire-value-requires c = task_known (the_view c.self.inside) c.args.task c.self.invariant (subst (λ (n : RunningNode). MayStart n c.args.task) (sym c.self.view_is) c.requires)
+
+pub invariant_of-self : goal.invariant_of-self
+invariant_of-self c =
+    record {
+      table = c.self.invariant.table;
+      spot = c.self.invariant.spot;
+      ins = subst (λ (g : RegistersSeen). InsFit (mode_of (the_view c.self.inside)).messages g.ins) (sym c.begin.ensures)
+          (taken_fit (mode_of (the_view c.self.inside)).messages c.args.task c.self.inside.registers.ins c.as_slice-messages.result.now c.self.invariant.ins);
+    }
