@@ -1,7 +1,8 @@
 -- The inputs of a start
-use Rattle.std.proofs.Common.{◌≡◌, ℕ, zero, suc, ◌+◌, ◌<◌, ◌≤◌, Bool, nat_eq, List, [], ◌∷◌, ◌++◌, length, get_or, set, map, fold, replicate, All, Option, Some, None, IfSome, ℤ, refl, ap, sym, ◌∙◌, subst, arith, length-append}
-use Rattle.std.specs.List.{find, AllByRecursion}
+use Rattle.std.proofs.Common.{◌≡◌, ℕ, zero, suc, ◌+◌, ◌<◌, ◌≤◌, Bool, true, false, nat_eq, List, [], ◌∷◌, ◌++◌, length, get_or, set, map, fold, replicate, All, Option, Some, None, IfSome, ℤ, refl, ap, sym, ◌∙◌, subst, arith, length-append, append_assoc, add-one, drop, drop-cons}
+use Rattle.std.specs.List.{find, AllByRecursion, AllPairs}
 use Rattle.std.proofs.lemmas.Bool.{eqb-true}
+use Rattle.std.proofs.lemmas.Bool.Decides.{nat_tests}
 use Rattle.std.proofs.lemmas.List.{length-map, length-replicate}
 use Rattle.std.proofs.lemmas.List.Elements.{All-set, recursion_from_All}
 use Rattle.runtime_model.specs.Inputs.{given}
@@ -9,12 +10,37 @@ use Rattle.node_tables.specs.declared.tables.ModeTable.{ModeTable}
 use Rattle.node_tables.specs.declared.tables.OwnTask.{OwnTask}
 use Rattle.node_tables.specs.declared.tables.OwnMessage.{OwnMessage}
 use Rattle.node_core.specs.Lookup.{consumer_place, own_message, own_task}
-use Rattle.node_core.specs.Registers.{InRow, row_of, inputs_at, inputs_of, emptied_at, emptied_for}
+use Rattle.node_core.specs.Registers.{InRow, RegistersSeen, row_of, inputs_at, inputs_from, inputs_of, emptied_at, emptied_for}
 use Rattle.node_core.specs.Running.{RunningNode, mode_of}
 use Rattle.node_core.specs.Conditions.{IsOwnAndDue, MayStart}
-use Rattle.node_core.specs.Fits.{ModeFits, RowFits, InsFit, NodeFits, count_at, input_count}
+use Rattle.node_core.specs.Fits.{ModeFits, RowFits, InsFit, IsBefore, NodeFits, count_at, input_count}
 use Rattle.node_core.proofs.NodeLemmas.{mode_fits}
 use Rattle.node_core.proofs.MessageLemmas.{found_is, found_passes, row_written, no_row_fits}
+
+-- ---- messages in order
+
+-- the rest of ascending messages ascends, and all of it comes after the first
+pub later : (m : OwnMessage) (messages : List OwnMessage) → AllPairs IsBefore (m ∷ messages) → AllByRecursion (IsBefore m) messages
+later m messages up = recursion_from_All (IsBefore m) messages (λ k d l. up 0 (suc k) d (omega arith) (omega (arith, l)))
+
+pub rest_ascends : (m : OwnMessage) (messages : List OwnMessage) → AllPairs IsBefore (m ∷ messages) → AllPairs IsBefore messages
+rest_ascends m messages up i j d l k = up (suc i) (suc j) d (omega (arith, l)) (omega (arith, k))
+
+past_lower : (m : OwnMessage) (messages : List OwnMessage) (x : OwnMessage) → IsBefore m x → own_message messages x.number ≡ Some x → own_message (m ∷ messages) x.number ≡ Some x
+past_lower m messages x l e =
+    let test : nat_eq m.number x.number ≡ false = grind (arith, nat_tests) in
+    rw test e
+
+past_all : (m : OwnMessage) (all messages : List OwnMessage) → AllByRecursion (IsBefore m) messages → AllByRecursion (λ x. own_message all x.number ≡ Some x) messages → AllByRecursion (λ x. own_message (m ∷ all) x.number ≡ Some x) messages
+past_all m all [] l found = tt
+past_all m all (x ∷ messages) l found = (past_lower m all x l.0 found.0, past_all m all messages l.1 found.1)
+
+-- each of ascending messages is the one that its number finds
+pub each_is_found : (messages : List OwnMessage) → AllPairs IsBefore messages → AllByRecursion (λ x. own_message messages x.number ≡ Some x) messages
+each_is_found [] up = tt
+each_is_found (m ∷ messages) up =
+    let test : nat_eq m.number m.number ≡ true = grind (arith, nat_tests) in
+    (rw test refl, past_all m messages messages (later m messages up) (each_is_found messages (rest_ascends m messages up)))
 
 -- ---- the task
 
@@ -65,7 +91,7 @@ pub few_inputs : (n : RunningNode) (task : ℕ) (messages : List OwnMessage) →
 few_inputs n task messages fits is =
     let m = mode_fits n.table fits.table n.mode fits.spot.mode_known in
     let all = (mode_of n).messages in
-    let rows = rows_fit all n.registers.ins all fits.ins (recursion_from_All (λ x. own_message all x.number ≡ Some x) all m.found) in
+    let rows = rows_fit all n.registers.ins all fits.ins (each_is_found all m.ascending) in
     let count = length-inputs_of n.registers.ins task all rows in
     let few = m.inputs task in
     subst (λ (xs : List OwnMessage). length (inputs_of n.registers.ins task xs) ≤ 64) (sym is) (omega (arith, count, few))
@@ -87,3 +113,48 @@ emptied_at_fits all ins m (Some c) fits x e =
 pub taken_fit : (all : List OwnMessage) (task : ℕ) (ins : List InRow) (messages : List OwnMessage) → InsFit all ins → InsFit all (fold (emptied_for task) ins messages)
 taken_fit all task ins [] fits = fits
 taken_fit all task ins (m ∷ messages) fits = taken_fit all task (emptied_for task ins m) messages (emptied_at_fits all ins m (consumer_place task m) fits)
+
+-- ---- a loop that takes them
+
+-- a row that isn't written is as it was
+other_row : (ins : List InRow) (i j : ℕ) (row : InRow) → i < j → row_of (set ins i row) j ≡ row_of ins j
+other_row [] i j row l = refl
+other_row (r ∷ rs) zero zero row l = absurd (omega (arith, l))
+other_row (r ∷ rs) zero (suc j) row l = refl
+other_row (r ∷ rs) (suc i) zero row l = absurd (omega (arith, l))
+other_row (r ∷ rs) (suc i) (suc j) row l = other_row rs i j row (omega (arith, l))
+
+row_kept : (ins : List InRow) (m : OwnMessage) (o : Option ℕ) (j : ℕ) → m.number < j → row_of (emptied_at ins m o) j ≡ row_of ins j
+row_kept ins m None j l = refl
+row_kept ins m (Some c) j l = other_row ins m.number j (set (row_of ins m.number) c None) l
+
+inputs_by_row : (ins more : List InRow) (m : OwnMessage) (o : Option ℕ) → row_of more m.number ≡ row_of ins m.number → inputs_at more m o ≡ inputs_at ins m o
+inputs_by_row ins more m None e = refl
+inputs_by_row ins more m (Some c) e = ap (λ (row : InRow). given (length m.producers) (get_or row c None)) e
+
+-- taking the register of a message leaves the inputs of later ones
+pub later_kept : (ins : List InRow) (task : ℕ) (m : OwnMessage) (rest : List OwnMessage) → AllByRecursion (IsBefore m) rest → inputs_of (emptied_for task ins m) task rest ≡ inputs_of ins task rest
+later_kept ins task m [] l = refl
+later_kept ins task m (x ∷ rest) l =
+    ap (λ (xs : List (Option ℤ)). xs ++ inputs_of (emptied_for task ins m) task rest) (inputs_by_row ins (emptied_for task ins m) x (consumer_place task x) (row_kept ins m (consumer_place task m) x.number l.0))
+    ∙ ap (λ (ys : List (Option ℤ)). inputs_at ins x (consumer_place task x) ++ ys) (later_kept ins task m rest l.1)
+
+ascends_from : (messages : List OwnMessage) (i : ℕ) → AllPairs IsBefore messages → AllPairs IsBefore (drop i messages)
+ascends_from messages zero up = up
+ascends_from [] (suc i) up = up
+ascends_from (m ∷ messages) (suc i) up = ascends_from messages i (rest_ascends m messages up)
+
+-- one more message
+pub taken_more : (task : ℕ) (start now new : RegistersSeen) (inputs more : List (Option ℤ)) (messages : List OwnMessage) (i : ℕ) (m : OwnMessage)
+    → i < length messages → m ≡ get_or messages i m → AllPairs IsBefore messages
+    → inputs ++ inputs_of now.ins task (drop i messages) ≡ inputs_of start.ins task messages
+    → more ≡ inputs ++ inputs_from now.ins task m
+    → new ≡ record now { ins = emptied_for task now.ins m }
+    → more ++ inputs_of new.ins task (drop (i + 1) messages) ≡ inputs_of start.ins task messages
+taken_more task start now new inputs more messages i m l is up so_far e f =
+    let rest = drop (suc i) messages in
+    let split : drop i messages ≡ m ∷ rest = drop-cons messages i m l ∙ ap (λ (x : OwnMessage). x ∷ rest) (sym is) in
+    let after : AllByRecursion (IsBefore m) rest = later m rest (subst (λ (xs : List OwnMessage). AllPairs IsBefore xs) split (ascends_from messages i up)) in
+    let kept : inputs_of new.ins task rest ≡ inputs_of now.ins task rest = ap (λ (g : RegistersSeen). inputs_of g.ins task rest) f ∙ later_kept now.ins task m rest after in
+    let joined : inputs ++ (inputs_from now.ins task m ++ inputs_of now.ins task rest) ≡ inputs_of start.ins task messages = subst (λ (xs : List OwnMessage). inputs ++ inputs_of now.ins task xs ≡ inputs_of start.ins task messages) split so_far in
+    rw (add-one, e, kept, append_assoc) joined

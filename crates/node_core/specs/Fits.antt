@@ -1,5 +1,6 @@
 -- What is kept of every node
 use Rattle.std.specs.Prelude.{◌≡◌, ℕ, ◌+◌, ◌<◌, ◌≤◌, List, [], ◌∷◌, length, Option, Some, None, All, IfSome, ℤ, pos, ◌≤ℤ◌, ◌<ℤ◌}
+use Rattle.std.specs.List.{AllPairs}
 use Rattle.node_tables.specs.declared.tables.NodeTable.{NodeTable}
 use Rattle.node_tables.specs.declared.tables.ModeTable.{ModeTable}
 use Rattle.node_tables.specs.declared.tables.OwnTask.{OwnTask}
@@ -31,8 +32,12 @@ pub record StartFits (hyper : ℤ) (r : OwnRound) : Type 0 where
   pub low : pos 0 ≤ℤ r.start
   pub high : r.start <ℤ hyper
 
+-- a message has a lower number than another
+abbrev pub IsBefore : OwnMessage → OwnMessage → Type 0
+IsBefore m x = m.number < x.number
+
 -- a mode's part is within the limits: its hyperperiod is at most 10^12, some round is in it, tasks have numbers below 1024,
--- each message is the one that its number finds, and no task takes more than 64 values
+-- messages stand in ascending order of their numbers, and no task takes more than 64 values
 pub record ModeFits (m : ModeTable) : Type 0 where
   pub some_tick : pos 1 ≤ℤ m.hyper
   pub most_ticks : m.hyper ≤ℤ pos 1000000000000
@@ -40,7 +45,7 @@ pub record ModeFits (m : ModeTable) : Type 0 where
   pub starts : All (StartFits m.hyper) m.rounds
   pub tasks : All (λ t. t.number < 1024) m.tasks
   pub messages : All MessageFits m.messages
-  pub found : All (λ x. own_message m.messages x.number ≡ Some x) m.messages
+  pub ascending : AllPairs IsBefore m.messages
   pub inputs : (task : ℕ) → input_count task m.messages ≤ 64
 
 -- a table is within the limits, in each of its modes

@@ -46,10 +46,14 @@ values_of g tasks = all_present (map (out_of g) tasks)
 abbrev pub filled : OwnMessage → List ℤ → RegistersSeen → RegistersSeen
 filled m values g = record g { ins = slice_set g.ins m.number (replicate (length m.consumers) (Some values)) }
 
--- the inputs from the in register of the consumer at a place: one per producer, absent where the register is empty
+-- the in register of the consumer of a message at a place
+abbrev pub register_at : List InRow → OwnMessage → ℕ → Option (List ℤ)
+register_at ins m c = slice_index_or (row_of ins m.number) c None
+
+-- the inputs from that register: one per producer, absent where the register is empty
 abbrev pub inputs_at : List InRow → OwnMessage → Option ℕ → List (Option ℤ)
 inputs_at ins m None = []
-inputs_at ins m (Some c) = given (length m.producers) (slice_index_or (row_of ins m.number) c None)
+inputs_at ins m (Some c) = given (length m.producers) (register_at ins m c)
 
 -- the inputs of a task from a message
 abbrev pub inputs_from : List InRow → ℕ → OwnMessage → List (Option ℤ)

@@ -1,9 +1,11 @@
 //! The registers of a node, and its run in progress.
 
 ghost use Rattle.std.specs.Prelude.{◌≡◌, ◌+◌, ◌<◌, ◌≤◌, ◌++◌, [], All, IfOk, None, false, Option, Some, fold, length, replicate, slice_index_or, slice_set};
+ghost use Rattle.std.specs.List.{AllPairs};
 ghost use Rattle.std.specs.Option.{option_copied};
-ghost use Rattle.node_core.specs.Fits.{MessageFits};
-ghost use Rattle.node_core.specs.Registers.{begun, emptied_for, ended_with, filled, inputs_from, inputs_of, no_ins, no_outs, no_registers, out_of, value_at_end, values_of};
+ghost use Rattle.runtime_model.specs.Inputs.{given};
+ghost use Rattle.node_core.specs.Fits.{IsBefore, MessageFits};
+ghost use Rattle.node_core.specs.Registers.{emptied_for, ended_with, filled, inputs_from, inputs_of, no_ins, no_outs, no_registers, out_of, value_at_end, values_of};
 ghost use Rattle.node_core.specs.Rules.{packet_from};
 
 use crate::lookup::{consumer_place, sends};
@@ -84,10 +86,24 @@ impl InRow {
         }
     }
 
-    /// Empties the register at a place.
-    fn take(&mut self, place: usize)
-        ensures { self.new ≡ slice_set self.old place None }
+    /// Adds the values of the register at a place, or so many absent ones, at the end of other inputs.
+    fn read(&self, place: usize, count: usize, inputs: &mut Inputs)
+        requires { length inputs.old + length (given count (slice_index_or self.now place None)) ≤ 64 }
+        ensures { inputs.new ≡ inputs.old ++ given count (slice_index_or self.now place None) }
     {
+        match self.get(place) {
+            Some(values) => inputs.push_values(values),
+            None => inputs.push_absent(count),
+        }
+    }
+
+    /// Takes the register at a place: its values, or so many absent ones, go to the end of other inputs, and it is empty.
+    fn take(&mut self, place: usize, count: usize, inputs: &mut Inputs)
+        requires { length inputs.old + length (given count (slice_index_or self.old place None)) ≤ 64 }
+        ensures inputs { inputs.new ≡ inputs.old ++ given count (slice_index_or self.old place None) }
+        ensures emptied { self.new ≡ slice_set self.old place None }
+    {
+        self.read(place, count, inputs);
         clear_at(&mut self.full, place);
     }
 }
@@ -193,63 +209,39 @@ impl Registers {
         row.fill(count, values);
     }
 
-    /// Adds the inputs of a task from a message at the end of others.
-    fn add_inputs(&self, message: &OwnMessage, task: u32, inputs: &mut Inputs)
+    /// Takes the in register of a task for a message: its inputs go to the end of others, and it is empty.
+    fn take_input(&mut self, message: &OwnMessage, task: u32, inputs: &mut Inputs)
         requires number { message.now.number < 512 }
-        requires room { length inputs.old + length (inputs_from self.now.ins task message.now) ≤ 64 }
-        ensures { inputs.new ≡ inputs.old ++ inputs_from self.now.ins task message.now }
-    {
-        let Some(place) = consumer_place(message, task) else {
-            return;
-        };
-        let row = &self.ins[message.number as usize];
-        match row.get(place) {
-            Some(values) => inputs.push_values(values),
-            None => inputs.push_absent(message.producers.as_slice().len()),
-        }
-    }
-
-    /// The inputs of a task, by the messages of its mode.
-    pub(crate) fn inputs_of(&self, messages: &[OwnMessage], task: u32) -> Inputs
-        requires numbers { All MessageFits messages.now }
-        requires room { length (inputs_of self.now.ins task messages.now) ≤ 64 }
-        ensures { result ≡ inputs_of self.now.ins task messages.now }
-    {
-        let mut inputs = Inputs::new();
-        for message in messages {
-            self.add_inputs(message, task, &mut inputs);
-        }
-        inputs
-    }
-
-    /// Empties the in register of a task for a message.
-    fn take_input(&mut self, message: &OwnMessage, task: u32)
-        requires { message.now.number < 512 }
-        ensures { self.new ≡ record self.old { ins = emptied_for task self.old.ins message.now } }
+        requires room { length inputs.old + length (inputs_from self.old.ins task message.now) ≤ 64 }
+        ensures inputs { inputs.new ≡ inputs.old ++ inputs_from self.old.ins task message.now }
+        ensures emptied { self.new ≡ record self.old { ins = emptied_for task self.old.ins message.now } }
     {
         let Some(place) = consumer_place(message, task) else {
             return;
         };
         let row = &mut self.ins[message.number as usize];
-        row.take(place);
+        row.take(place, message.producers.as_slice().len(), inputs);
     }
 
-    /// Empties the in registers of a task.
-    fn take_inputs(&mut self, messages: &[OwnMessage], task: u32)
-        requires { All MessageFits messages.now }
-        ensures { self.new ≡ record self.old { ins = fold (emptied_for task) self.old.ins messages.now } }
+    /// Takes the in registers of a task, by the messages of its mode: the inputs of a run.
+    pub(crate) fn take_inputs(&mut self, messages: &[OwnMessage], task: u32) -> Inputs
+        requires numbers { All MessageFits messages.now }
+        requires ascending { AllPairs IsBefore messages.now }
+        requires room { length (inputs_of self.old.ins task messages.now) ≤ 64 }
+        ensures inputs { result ≡ inputs_of self.old.ins task messages.now }
+        ensures emptied { self.new ≡ record self.old { ins = fold (emptied_for task) self.old.ins messages.now } }
     {
+        let mut inputs = Inputs::new();
         for message in messages {
-            self.take_input(message, task);
+            self.take_input(message, task, &mut inputs);
         }
+        inputs
     }
 
-    /// Begins a run of a task, which has taken its in registers.
-    pub(crate) fn begin(&mut self, messages: &[OwnMessage], task: u32, value: i64)
-        requires { All MessageFits messages.now }
-        ensures { self.new ≡ begun task value messages.now self.old }
+    /// Begins a run of a task, whose end will answer this value.
+    pub(crate) fn begin(&mut self, task: u32, value: i64)
+        ensures { self.new ≡ record self.old { run = Some (record { task = task; value = value }) } }
     {
-        self.take_inputs(messages, task);
         self.run = Some(Run { task, value });
     }
 

@@ -215,9 +215,9 @@ impl Running {
             return None;
         }
         let messages = mode_at(&self.table, self.mode).messages.as_slice();
-        let inputs = self.registers.inputs_of(messages, task);
+        let inputs = self.registers.take_inputs(messages, task);
         let value = body.fire(task, inputs.as_slice());
-        self.registers.begin(messages, task, value);
+        self.registers.begin(task, value);
         Some(inputs)
     }
 

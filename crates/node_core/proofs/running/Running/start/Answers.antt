@@ -8,8 +8,8 @@ use Rattle.node_core.specs.Fits.{InsFit}
 use Rattle.node_core.proofs.InputLemmas.{few_inputs, taken_fit, task_known}
 use Rattle.node_core.proofs.running.Running.start.Goals as goal
 
-pub inputs_of-inputs-requires-clause-room : goal.inputs_of-inputs-requires-clause-room
-inputs_of-inputs-requires-clause-room c =
+pub take_inputs-inputs-requires-clause-room : goal.take_inputs-inputs-requires-clause-room
+take_inputs-inputs-requires-clause-room c =
     few_inputs (the_view c.self.inside) c.args.task c.as_slice-messages.result.now c.self.invariant (c.as_slice-messages.ensures ∙ ap (λ (m : ModeTable). m.messages) c.mode_at.ensures)
 
 pub fire-value-requires : goal.fire-value-requires
@@ -21,5 +21,6 @@ invariant_of-self c =
       table = c.self.invariant.table;
       spot = c.self.invariant.spot;
       ins = subst (λ (g : RegistersSeen). InsFit (mode_of (the_view c.self.inside)).messages g.ins) (sym c.begin.ensures)
-          (taken_fit (mode_of (the_view c.self.inside)).messages c.args.task c.self.inside.registers.ins c.as_slice-messages.result.now c.self.invariant.ins);
+        (subst (λ (g : RegistersSeen). InsFit (mode_of (the_view c.self.inside)).messages g.ins) (sym c.take_inputs-inputs.ensures.emptied)
+        (taken_fit (mode_of (the_view c.self.inside)).messages c.args.task c.self.inside.registers.ins c.as_slice-messages.result.now c.self.invariant.ins));
     }
