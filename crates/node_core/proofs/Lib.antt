@@ -2,3 +2,4 @@ pub mod RegisterLemmas
 pub mod NodeLemmas
 pub mod MessageLemmas
 pub mod InputLemmas
+pub mod RowsComputed

@@ -4,3 +4,4 @@ pub mod Running
 pub mod Rules
 pub mod Conditions
 pub mod Fits
+pub mod Rows

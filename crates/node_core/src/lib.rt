@@ -5,8 +5,11 @@
 mod lookup;
 mod packet;
 mod registers;
+pub mod rows;
 mod running;
 mod states;
+#[cfg(test)]
+mod tests;
 
 pub use packet::{Inputs, Packet, Values};
 pub use registers::Run;

@@ -21,6 +21,6 @@ invariant_of-self c =
       table = c.self.invariant.table;
       spot = c.self.invariant.spot;
       ins = subst (λ (g : RegistersSeen). InsFit (mode_of (the_view c.self.inside)).messages g.ins) (sym c.begin.ensures)
-        (subst (λ (g : RegistersSeen). InsFit (mode_of (the_view c.self.inside)).messages g.ins) (sym c.take_inputs-inputs.ensures.emptied)
-        (taken_fit (mode_of (the_view c.self.inside)).messages c.args.task c.self.inside.registers.ins c.as_slice-messages.result.now c.self.invariant.ins));
+          (subst (λ (g : RegistersSeen). InsFit (mode_of (the_view c.self.inside)).messages g.ins) (sym c.take_inputs-inputs.ensures.emptied)
+          (taken_fit (mode_of (the_view c.self.inside)).messages c.args.task c.self.inside.registers.ins c.as_slice-messages.result.now c.self.invariant.ins));
     }

@@ -1,0 +1,33 @@
+-- The worked rows, by computing
+use Rattle.std.proofs.Common.{refl}
+use Rattle.node_core.specs.Registers.{no_outs, no_ins}
+use Rattle.node_core.specs.Rows.{Misses, SenseRuns, ControlSends, TakesAPacket, ActRuns, OtherModeEmpties, DrainEmpties, DrainPlaces}
+
+pub misses : Misses
+misses = (refl, refl, refl, refl, refl)
+
+pub sense_runs : SenseRuns
+unfolding no_outs no_ins
+sense_runs = (refl, refl, refl, refl)
+
+pub control_sends : ControlSends
+unfolding no_outs no_ins
+control_sends = (refl, refl, refl, refl)
+
+pub takes_a_packet : TakesAPacket
+unfolding no_outs no_ins
+takes_a_packet = (refl, refl)
+
+pub act_runs : ActRuns
+unfolding no_outs no_ins
+act_runs = (refl, refl, refl, refl)
+
+pub other_mode_empties : OtherModeEmpties
+other_mode_empties = (refl, refl, refl)
+
+pub drain_empties : DrainEmpties
+drain_empties = (refl, refl, refl, refl)
+
+pub drain_places : DrainPlaces
+unfolding no_outs no_ins
+drain_places = (refl, refl)

@@ -1,0 +1,165 @@
+-- Worked rows: what nodes of a loop of three tasks do, computed from the rules.
+-- `sense` on node 1 sends `m1` to `ctrl` on node 0, which sends `m2` to `act` on node 2. The tick is that of the hyperperiod, of 100 ticks
+use Rattle.std.specs.Prelude.{◌≡◌, ℕ, Bool, true, false, List, [], ◌∷◌, Option, Some, None, ℤ, pos, negsuc}
+use Rattle.beacon_codec.specs.declared.packet.Beacon.{Beacon}
+use Rattle.task_body.specs.Tally.{first_numbers, numbers_after_reset}
+use Rattle.node_tables.specs.declared.tables.NodeTable.{NodeTable}
+use Rattle.node_tables.specs.declared.tables.ModeTable.{ModeTable}
+use Rattle.node_core.specs.declared.packet.Packet.{Packet}
+use Rattle.node_core.specs.Registers.{no_registers, no_outs}
+use Rattle.node_core.specs.Running.{RunningNode}
+use Rattle.node_core.specs.Rules.{announced, body_after, coasted, end_answer, ended, first_heard, heard, next_start, passed, received, sent, start_answer, started, takes}
+
+-- ---- the tables: rounds start at 0 and 23; `m2` has its slot in the first one, for a release one period before, and `m1` in the second one
+
+abbrev pub sense_mode : ModeTable
+sense_mode = record {
+  hyper = pos 100;
+  first_round = 1;
+  tasks = record { number = 0; period = pos 100; offset = pos 21; wcet = pos 2 } ∷ [];
+  messages = record { number = 0; role = 1; producers = 0 ∷ []; consumers = [] } ∷ [];
+  rounds = record { start = pos 0; slots = [] } ∷ record { start = pos 23; slots = record { slot = 1; message = 0; release = pos 0 } ∷ [] } ∷ [];
+}
+
+abbrev pub control_mode : ModeTable
+control_mode = record {
+  hyper = pos 100;
+  first_round = 1;
+  tasks = record { number = 1; period = pos 100; offset = pos 43; wcet = pos 5 } ∷ [];
+  messages = record { number = 0; role = 2; producers = 0 ∷ []; consumers = 1 ∷ [] } ∷ record { number = 1; role = 1; producers = 1 ∷ []; consumers = [] } ∷ [];
+  rounds = record { start = pos 0; slots = record { slot = 1; message = 1; release = negsuc 99 } ∷ [] } ∷ record { start = pos 23; slots = record { slot = 1; message = 0; release = pos 0 } ∷ [] } ∷ [];
+}
+
+abbrev pub act_mode : ModeTable
+act_mode = record {
+  hyper = pos 100;
+  first_round = 1;
+  tasks = record { number = 2; period = pos 100; offset = pos 120; wcet = pos 1 } ∷ [];
+  messages = record { number = 1; role = 2; producers = 1 ∷ []; consumers = 2 ∷ [] } ∷ [];
+  rounds = record { start = pos 0; slots = record { slot = 1; message = 1; release = negsuc 99 } ∷ [] } ∷ record { start = pos 23; slots = [] } ∷ [];
+}
+
+-- a mode of one round, the third of the file, in which a node does nothing
+abbrev pub idle_mode : ModeTable
+idle_mode = record { hyper = pos 100; first_round = 3; tasks = []; messages = []; rounds = record { start = pos 0; slots = [] } ∷ [] }
+
+abbrev pub sense_table : NodeTable
+sense_table = record { node = 1; modes = sense_mode ∷ idle_mode ∷ [] }
+
+abbrev pub control_table : NodeTable
+control_table = record { node = 0; modes = control_mode ∷ idle_mode ∷ [] }
+
+abbrev pub act_table : NodeTable
+act_table = record { node = 2; modes = act_mode ∷ idle_mode ∷ [] }
+
+-- ---- the beacons
+
+-- of an opening hyperperiod
+abbrev pub opening_beacon : ℕ → Beacon
+opening_beacon round = record { round = round; mode = 0; trigger = false; opening = true }
+
+-- of a steady one
+abbrev pub steady_beacon : ℕ → Beacon
+steady_beacon round = record { round = round; mode = 0; trigger = false; opening = false }
+
+-- of one that warns of a change to mode 1
+abbrev pub warning_beacon : ℕ → Beacon
+warning_beacon round = record { round = round; mode = 1; trigger = false; opening = false }
+
+-- of one that drains towards mode 1
+abbrev pub draining_beacon : ℕ → Beacon
+draining_beacon round = record { round = round; mode = 1; trigger = true; opening = false }
+
+-- ---- misses
+
+-- a node that heard the second round's beacon, once the ticks to the next one have passed
+abbrev pub before_miss : Beacon → RunningNode
+before_miss b = passed (first_heard sense_table b) (pos 77)
+
+-- one that heard no change has come to its next round, in the next hyperperiod, and coasts; its next beacon is that of the second round
+abbrev pub Misses : Type 0
+Misses =
+    (((before_miss (steady_beacon 2)).tick ≡ pos 0)
+    × (next_start (before_miss (steady_beacon 2)) ≡ pos 0)
+    × (announced (before_miss (steady_beacon 2)) ≡ false)
+    × (next_start (coasted (before_miss (steady_beacon 2))) ≡ pos 23)
+    × (announced (before_miss (warning_beacon 2)) ≡ true))
+
+-- ---- a lost beacon: node 1 misses the beacon of the second round
+
+-- node 1 starts its task, which takes nothing, and its run ends before the second round
+abbrev pub sense_started : RunningNode
+sense_started = started (passed (first_heard sense_table (opening_beacon 1)) (pos 21)) 0 first_numbers
+
+abbrev pub sense_ended : RunningNode
+sense_ended = ended (passed sense_started (pos 2)) 0
+
+abbrev pub SenseRuns : Type 0
+SenseRuns =
+    ((start_answer (passed (first_heard sense_table (opening_beacon 1)) (pos 21)) 0 ≡ Some [])
+    × (end_answer (passed sense_started (pos 2)) 0 ≡ Some (pos 1))
+    × (next_start sense_ended ≡ pos 23)
+    × (sent (heard sense_ended (opening_beacon 2)) 1 ≡ Some (record { message = 0; values = pos 1 ∷ [] })))
+
+-- node 0, whose slot of the opening hyperperiod's first round is for an earlier release, so that it is not placed
+abbrev pub control_second : RunningNode
+control_second = heard (passed (first_heard control_table (opening_beacon 1)) (pos 23)) (opening_beacon 2)
+
+-- it takes no packet, and its task finds the in register empty
+abbrev pub control_ended : RunningNode
+control_ended = ended (passed (started (passed control_second (pos 20)) 1 first_numbers) (pos 5)) 1
+
+-- the next hyperperiod does not open, and the slot is placed
+abbrev pub control_third : RunningNode
+control_third = heard (passed control_ended (pos 52)) (steady_beacon 1)
+
+abbrev pub ControlSends : Type 0
+ControlSends =
+    ((sent (first_heard control_table (opening_beacon 1)) 1 ≡ None)
+    × (start_answer (passed control_second (pos 20)) 1 ≡ Some (None ∷ []))
+    × (end_answer (passed (started (passed control_second (pos 20)) 1 first_numbers) (pos 5)) 1 ≡ Some (pos 1))
+    × (sent control_third 1 ≡ Some (record { message = 1; values = pos 1 ∷ [] })))
+
+-- with a packet in the second round it finds the value
+abbrev pub TakesAPacket : Type 0
+TakesAPacket =
+    ((takes control_second 1 ≡ true)
+    × (start_answer (passed (received control_second 1 (record { message = 0; values = pos 7 ∷ [] })) (pos 20)) 1 ≡ Some (Some (pos 7) ∷ [])))
+
+-- node 2: its task's start in the opening hyperperiod is of a run that was released before, and is not placed
+abbrev pub act_third : RunningNode
+act_third = heard (passed (heard (passed (first_heard act_table (opening_beacon 1)) (pos 23)) (opening_beacon 2)) (pos 77)) (steady_beacon 1)
+
+-- it takes the packet and starts its task with it
+abbrev pub act_started : RunningNode
+act_started = started (passed (received act_third 1 (record { message = 1; values = pos 1 ∷ [] })) (pos 20)) 2 first_numbers
+
+abbrev pub ActRuns : Type 0
+ActRuns =
+    ((start_answer (passed (first_heard act_table (opening_beacon 1)) (pos 20)) 2 ≡ None)
+    × (takes act_third 1 ≡ true)
+    × (start_answer (passed (received act_third 1 (record { message = 1; values = pos 1 ∷ [] })) (pos 20)) 2 ≡ Some (Some (pos 1) ∷ []))
+    × (end_answer (passed act_started (pos 1)) 2 ≡ Some (pos 2)))
+
+-- ---- what empties registers
+
+-- the same node, whose out register is full: a beacon of the same mode keeps the registers, and one of another mode's round empties them
+abbrev pub OtherModeEmpties : Type 0
+OtherModeEmpties =
+    (((heard control_ended (steady_beacon 1)).registers ≡ control_ended.registers)
+    × ((heard control_ended (record { round = 3; mode = 1; trigger = false; opening = true })).registers ≡ no_registers)
+    × ((heard control_ended (record { round = 3; mode = 1; trigger = false; opening = true })).mode ≡ 1))
+
+-- the end of a hyperperiod that drains empties them, and that of another one doesn't
+abbrev pub DrainEmpties : Type 0
+DrainEmpties =
+    (((passed control_ended (pos 52)).registers ≡ control_ended.registers)
+    × ((passed (record control_ended { draining = true }) (pos 52)).registers ≡ no_registers)
+    × ((passed (record control_ended { draining = true }) (pos 52)).draining ≡ false)
+    × ((passed control_ended (pos 52)).opening ≡ false))
+
+-- a draining hyperperiod places the slot of an earlier release, and no start of a run that is released in it
+abbrev pub DrainPlaces : Type 0
+DrainPlaces =
+    ((sent (heard control_ended (draining_beacon 1)) 1 ≡ Some (record { message = 1; values = pos 1 ∷ [] }))
+    × (start_answer (passed (heard (passed (heard control_ended (draining_beacon 1)) (pos 23)) (draining_beacon 2)) (pos 20)) 1 ≡ None))
