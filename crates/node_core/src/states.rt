@@ -118,8 +118,7 @@ impl Synced {
         ensures { result ≡ cond (announced self) (StoodDown self.table) (Coasted (coasted self)) }
     {
         if self.kept.announced() {
-            self.kept.empty();
-            Missed::StoodDown(Listening { kept: self.kept })
+            Missed::StoodDown(stood_down(self.kept))
         } else {
             self.kept.coast();
             Missed::Coasted(Coasting { kept: self.kept })
@@ -127,11 +126,10 @@ impl Synced {
     }
 
     /// Restarts: the registers are empty, and the run in progress ends without an answer.
-    pub fn restart(mut self) -> Listening
+    pub fn restart(self) -> Listening
         ensures { result ≡ self.table }
     {
-        self.kept.empty();
-        Listening { kept: self.kept }
+        stood_down(self.kept)
     }
 
     /// Lets `ticks` pass, at least 0, not beyond the next round's start.
@@ -195,20 +193,19 @@ impl Coasting {
     }
 
     /// Misses a second beacon: the registers are empty, and the run in progress ends without an answer.
-    pub fn miss(mut self) -> Listening
+    pub fn miss(self) -> Listening
         requires { MayMiss self }
         ensures { result ≡ self.table }
     {
-        self.kept.empty();
-        Listening { kept: self.kept }
+        let Coasting { kept } = self;
+        stood_down(kept)
     }
 
     /// Restarts, as a Synced node does.
-    pub fn restart(mut self) -> Listening
+    pub fn restart(self) -> Listening
         ensures { result ≡ self.table }
     {
-        self.kept.empty();
-        Listening { kept: self.kept }
+        stood_down(self.kept)
     }
 
     /// Lets `ticks` pass, as for a Synced node.
@@ -239,4 +236,12 @@ impl Coasting {
     {
         self.kept.end(task)
     }
+}
+
+/// A node that waits for a beacon again: its registers are empty, and its run in progress ends without an answer.
+fn stood_down(mut kept: Running) -> Listening
+    ensures { result ≡ kept.table }
+{
+    kept.empty();
+    Listening { kept }
 }

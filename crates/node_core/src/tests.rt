@@ -1,10 +1,10 @@
 //! Nodes that hear, miss, send and run, over the tables of a loop of three tasks.
 
-ghost use Rattle.std.specs.Prelude.{◌≡◌, IfOk, ◌∷◌, []};
-ghost use Rattle.node_core.specs.Rows.{control_ended, control_table, idle_mode, sense_table};
+ghost use Rattle.std.specs.Prelude.{◌≡◌, IfOk, [], false, ◌∷◌};
+ghost use Rattle.node_core.specs.Rows.{control_ended, control_second, control_table, idle_mode, sense_table};
 ghost use Rattle.node_core.specs.Rules.{first_heard};
 
-use crate::{Listening, Missed, Packet, Synced, Values};
+use crate::{Coasting, Listening, Missed, Packet, Synced, Values};
 use app_graph::ListOf;
 use beacon_codec::{Beacon, encode};
 use node_tables::{ModeTable, NodeTable, OwnMessage, OwnRound, OwnSlot, OwnTask};
@@ -200,20 +200,27 @@ fn misses_after_an_announced_change(rt: HostRuntime) -> Result<(), Fail> {
     Ok(())
 }
 
-/// The node of `ctrl` after its run in an opening hyperperiod, at the end of that run.
+/// The node of `ctrl` in the second round of an opening hyperperiod.
+fn control_in_second_round(alloc: Global) -> Result<Synced, AllocError>
+    ensures { IfOk result (λ n. n ≡ control_second) }
+{
+    let node = Listening::make(alloc, control_table(alloc)?)?;
+    let mut first = node.hear(beacon(1, true));
+    first.pass(23);
+    Ok(first.hear(beacon(2, true)))
+}
+
+/// The node of `ctrl` at the end of its run in that hyperperiod.
 fn control_after_run(alloc: Global) -> Result<Synced, AllocError>
     ensures { IfOk result (λ n. n ≡ control_ended) }
 {
-    let node = Listening::make(alloc, control_table(alloc)?)?;
+    let mut node = control_in_second_round(alloc)?;
     let mut body = Tally::make(alloc)?;
-    let mut first = node.hear(beacon(1, true));
-    first.pass(23);
-    let mut second = first.hear(beacon(2, true));
-    second.pass(20);
-    let _inputs = second.start(1, &mut body);
-    second.pass(5);
-    let _value = second.end(1);
-    Ok(second)
+    node.pass(20);
+    let _inputs = node.start(1, &mut body);
+    node.pass(5);
+    let _value = node.end(1);
+    Ok(node)
 }
 
 /// The values of a packet, if it is of this message.
@@ -273,5 +280,43 @@ fn packet_is_input(rt: HostRuntime) -> Result<(), Fail> {
     assert_eq!(rt; node.end(0), None);
     assert_eq!(rt; node.end(1), Some(8));
     assert_eq!(rt; node.end(1), None);
+    Ok(())
+}
+
+/// What the calls below answer.
+#[derive(Clone, Copy, Debug, PartialEq, Eq)]
+struct NoCall;
+
+/// Stands in for the calls that only a Synced node has. A method of a type's own comes before one of a trait,
+/// so the test below compiles only while the two types have no such methods.
+trait Silent {
+    fn slot(&self, _slot: u8) -> NoCall {
+        NoCall
+    }
+
+    fn receive(&mut self, _slot: u8, _packet: &Packet) -> NoCall {
+        NoCall
+    }
+}
+
+impl Silent for Listening {}
+
+impl Silent for Coasting {}
+
+#[test]
+fn only_a_synced_node_sends_and_takes(rt: HostRuntime) -> Result<(), Fail> {
+    let packet = Packet {
+        message: 0,
+        values: Values::new(),
+    };
+    let mut listening = Listening::make(rt.alloc(), sense_table(rt.alloc())?)?;
+    let answers: (NoCall, NoCall) = (listening.slot(1), listening.receive(1, &packet));
+    assert_eq!(rt; answers, (NoCall, NoCall));
+    let mut node = listening.hear(beacon(2, false));
+    node.pass(77);
+    if let Missed::Coasted(mut coasting) = node.miss() {
+        let answers: (NoCall, NoCall) = (coasting.slot(1), coasting.receive(1, &packet));
+        assert_eq!(rt; answers, (NoCall, NoCall));
+    }
     Ok(())
 }
