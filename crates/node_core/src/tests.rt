@@ -294,7 +294,9 @@ trait Silent {
         NoCall
     }
 
-    fn receive(&mut self, _slot: u8, _packet: &Packet) -> NoCall {
+    fn receive(&mut self, _slot: u8, _packet: &Packet) -> NoCall
+        ensures { self.new ≡ self.old }
+    {
         NoCall
     }
 }
