@@ -1,8 +1,7 @@
 -- The inputs of a start
-use Rattle.std.proofs.Common.{◌≡◌, ℕ, zero, suc, ◌+◌, ◌<◌, ◌≤◌, Bool, true, false, nat_eq, List, [], ◌∷◌, ◌++◌, length, get_or, set, map, fold, replicate, All, Option, Some, None, IfSome, ℤ, refl, ap, sym, ◌∙◌, subst, arith, length-append, append_assoc, add-one, drop, drop-cons}
+use Rattle.std.proofs.Common.{◌≡◌, ℕ, zero, suc, ◌+◌, ◌<◌, ◌≤◌, nat_eq, List, [], ◌∷◌, ◌++◌, length, get_or, set, map, fold, replicate, All, Option, Some, None, IfSome, ℤ, refl, ap, sym, ◌∙◌, subst, arith, length-append, append_assoc, add-one, drop, drop-cons}
 use Rattle.std.specs.List.{find, AllByRecursion, AllPairs}
 use Rattle.std.proofs.lemmas.Bool.{eqb-true}
-use Rattle.std.proofs.lemmas.Bool.Decides.{nat_tests}
 use Rattle.std.proofs.lemmas.List.{length-map, length-replicate}
 use Rattle.std.proofs.lemmas.List.Elements.{All-set, recursion_from_All}
 use Rattle.runtime_model.specs.Inputs.{given}
@@ -15,32 +14,13 @@ use Rattle.node_core.specs.Running.{RunningNode, mode_of}
 use Rattle.node_core.specs.Conditions.{IsOwnAndDue, MayStart}
 use Rattle.node_core.specs.Fits.{ModeFits, RowFits, InsFit, IsBefore, NodeFits, count_at, input_count}
 use Rattle.node_core.proofs.NodeLemmas.{mode_fits}
+use Rattle.node_core.proofs.SearchLemmas.{later, rest_ascends, each_is_found}
 use Rattle.node_core.proofs.MessageLemmas.{found_is, found_passes, row_written, no_row_fits}
 
 -- ---- messages in order
 
--- the rest of ascending messages ascends, and all of it comes after the first
-pub later : (m : OwnMessage) (messages : List OwnMessage) → AllPairs IsBefore (m ∷ messages) → AllByRecursion (IsBefore m) messages
-later m messages up = recursion_from_All (IsBefore m) messages (λ k d l. up 0 (suc k) d (omega arith) (omega (arith, l)))
-
-pub rest_ascends : (m : OwnMessage) (messages : List OwnMessage) → AllPairs IsBefore (m ∷ messages) → AllPairs IsBefore messages
-rest_ascends m messages up i j d l k = up (suc i) (suc j) d (omega (arith, l)) (omega (arith, k))
-
-past_lower : (m : OwnMessage) (messages : List OwnMessage) (x : OwnMessage) → IsBefore m x → own_message messages x.number ≡ Some x → own_message (m ∷ messages) x.number ≡ Some x
-past_lower m messages x l e =
-    let test : nat_eq m.number x.number ≡ false = grind (arith, nat_tests) in
-    rw test e
-
-past_all : (m : OwnMessage) (all messages : List OwnMessage) → AllByRecursion (IsBefore m) messages → AllByRecursion (λ x. own_message all x.number ≡ Some x) messages → AllByRecursion (λ x. own_message (m ∷ all) x.number ≡ Some x) messages
-past_all m all [] l found = tt
-past_all m all (x ∷ messages) l found = (past_lower m all x l.0 found.0, past_all m all messages l.1 found.1)
-
--- each of ascending messages is the one that its number finds
-pub each_is_found : (messages : List OwnMessage) → AllPairs IsBefore messages → AllByRecursion (λ x. own_message messages x.number ≡ Some x) messages
-each_is_found [] up = tt
-each_is_found (m ∷ messages) up =
-    let test : nat_eq m.number m.number ≡ true = grind (arith, nat_tests) in
-    (rw test refl, past_all m messages messages (later m messages up) (each_is_found messages (rest_ascends m messages up)))
+abbrev number_of : OwnMessage → ℕ
+number_of m = m.number
 
 -- ---- the task
 
@@ -91,7 +71,7 @@ pub few_inputs : (n : RunningNode) (task : ℕ) (messages : List OwnMessage) →
 few_inputs n task messages fits is =
     let m = mode_fits n.table fits.table n.mode fits.spot.mode_known in
     let all = (mode_of n).messages in
-    let rows = rows_fit all n.registers.ins all fits.ins (each_is_found all m.ascending) in
+    let rows = rows_fit all n.registers.ins all fits.ins (each_is_found number_of all m.ascending) in
     let count = length-inputs_of n.registers.ins task all rows in
     let few = m.inputs task in
     subst (λ (xs : List OwnMessage). length (inputs_of n.registers.ins task xs) ≤ 64) (sym is) (omega (arith, count, few))
@@ -142,7 +122,7 @@ later_kept ins task m (x ∷ rest) l =
 ascends_from : (messages : List OwnMessage) (i : ℕ) → AllPairs IsBefore messages → AllPairs IsBefore (drop i messages)
 ascends_from messages zero up = up
 ascends_from [] (suc i) up = up
-ascends_from (m ∷ messages) (suc i) up = ascends_from messages i (rest_ascends m messages up)
+ascends_from (m ∷ messages) (suc i) up = ascends_from messages i (rest_ascends number_of m messages up)
 
 -- one more message
 pub taken_more : (task : ℕ) (start now new : RegistersSeen) (inputs more : List (Option ℤ)) (messages : List OwnMessage) (i : ℕ) (m : OwnMessage)
@@ -154,7 +134,7 @@ pub taken_more : (task : ℕ) (start now new : RegistersSeen) (inputs more : Lis
 taken_more task start now new inputs more messages i m l is up so_far e f =
     let rest = drop (suc i) messages in
     let split : drop i messages ≡ m ∷ rest = drop-cons messages i m l ∙ ap (λ (x : OwnMessage). x ∷ rest) (sym is) in
-    let after : AllByRecursion (IsBefore m) rest = later m rest (subst (λ (xs : List OwnMessage). AllPairs IsBefore xs) split (ascends_from messages i up)) in
+    let after : AllByRecursion (IsBefore m) rest = later number_of m rest (subst (λ (xs : List OwnMessage). AllPairs IsBefore xs) split (ascends_from messages i up)) in
     let kept : inputs_of new.ins task rest ≡ inputs_of now.ins task rest = ap (λ (g : RegistersSeen). inputs_of g.ins task rest) f ∙ later_kept now.ins task m rest after in
     let joined : inputs ++ (inputs_from now.ins task m ++ inputs_of now.ins task rest) ≡ inputs_of start.ins task messages = subst (λ (xs : List OwnMessage). inputs ++ inputs_of now.ins task xs ≡ inputs_of start.ins task messages) split so_far in
     rw (add-one, e, kept, append_assoc) joined

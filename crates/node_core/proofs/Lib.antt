@@ -3,3 +3,4 @@ pub mod NodeLemmas
 pub mod MessageLemmas
 pub mod InputLemmas
 pub mod RowsComputed
+pub mod SearchLemmas

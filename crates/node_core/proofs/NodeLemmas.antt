@@ -1,7 +1,7 @@
 -- Where a node stands
 use Rattle.std.proofs.Common.{◌≡◌, ℕ, zero, suc, replicate, ◌+◌, ◌-◌, ◌<◌, ◌≤◌, Bool, true, false, cond, not, ◌&&◌, nat_lt, nat_le, List, [], length, get_or, All, Option, Some, None, unwrap_or, ℤ, pos, ◌+ℤ◌, ◌-ℤ◌, ◌≤ℤ◌, ◌<ℤ◌, refl, ap, sym, ◌∙◌, subst, arith}
 use Rattle.std.specs.Prelude.{int_lt, int_le}
-use Rattle.std.specs.List.{position}
+use Rattle.std.specs.List.{AllPairs, position}
 use Rattle.std.specs.Ordering.{int_eq}
 use Rattle.std.proofs.lemmas.Bool.Decides.{nat_tests}
 use Rattle.std.proofs.lemmas.Int.{ints}
@@ -16,11 +16,18 @@ use Rattle.node_core.specs.Registers.{InRow, RegistersSeen, no_ins, no_registers
 use Rattle.node_core.specs.Running.{RunningNode, mode_of}
 use Rattle.node_core.specs.Rules.{in_last_round, next_round, has_turned, next_start, passed, turned}
 use Rattle.node_core.specs.Conditions.{MayPass}
-use Rattle.node_core.specs.Fits.{TableFits, ModeFits, StartFits, SpotFits, RowFits, InsFit, NodeFits}
+use Rattle.node_core.specs.Fits.{IsBefore, IsTaskBefore, TableFits, ModeFits, StartFits, SpotFits, RowFits, InsFit, NodeFits}
 
 -- a mode of a table within the limits is within them
 pub mode_fits : (t : NodeTable) → TableFits t → (i : ℕ) → i < length t.modes → ModeFits (mode_at t i)
 mode_fits t fits i l = fits.modes i no_mode l
+
+-- so its tasks and messages ascend
+pub messages_ascend : (t : NodeTable) → TableFits t → (i : ℕ) → i < length t.modes → (m : ModeTable) → m ≡ mode_at t i → AllPairs IsBefore m.messages
+messages_ascend t fits i l m is = subst (λ (x : ModeTable). AllPairs IsBefore x.messages) (sym is) (mode_fits t fits i l).ascending
+
+pub tasks_ascend : (t : NodeTable) → TableFits t → (i : ℕ) → i < length t.modes → (m : ModeTable) → m ≡ mode_at t i → AllPairs IsTaskBefore m.tasks
+tasks_ascend t fits i l m is = subst (λ (x : ModeTable). AllPairs IsTaskBefore x.tasks) (sym is) (mode_fits t fits i l).tasks_ascending
 
 -- so is the start of a round
 pub start_fits : (m : ModeTable) → ModeFits m → (j : ℕ) → j < length m.rounds → StartFits m.hyper (round_at m j)

@@ -36,8 +36,12 @@ pub record StartFits (hyper : ℤ) (r : OwnRound) : Type 0 where
 abbrev pub IsBefore : OwnMessage → OwnMessage → Type 0
 IsBefore m x = m.number < x.number
 
+-- so has a task
+abbrev pub IsTaskBefore : OwnTask → OwnTask → Type 0
+IsTaskBefore t x = t.number < x.number
+
 -- a mode's part is within the limits: its hyperperiod is at most 10^12, some round is in it, tasks have numbers below 1024,
--- messages stand in ascending order of their numbers, and no task takes more than 64 values
+-- tasks and messages stand in ascending order of their numbers, and no task takes more than 64 values
 pub record ModeFits (m : ModeTable) : Type 0 where
   pub some_tick : pos 1 ≤ℤ m.hyper
   pub most_ticks : m.hyper ≤ℤ pos 1000000000000
@@ -46,6 +50,7 @@ pub record ModeFits (m : ModeTable) : Type 0 where
   pub tasks : All (λ t. t.number < 1024) m.tasks
   pub messages : All MessageFits m.messages
   pub ascending : AllPairs IsBefore m.messages
+  pub tasks_ascending : AllPairs IsTaskBefore m.tasks
   pub inputs : (task : ℕ) → input_count task m.messages ≤ 64
 
 -- a table is within the limits, in each of its modes

@@ -1,9 +1,9 @@
 //! Looking up in a node's table.
 
 ghost use Rattle.std.specs.Prelude.{◌≡◌, ◌-◌, ◌<◌, length};
-ghost use Rattle.std.specs.List.{position};
+ghost use Rattle.std.specs.List.{AllPairs, position};
 ghost use Rattle.std.specs.Option.{option_copied};
-ghost use Rattle.node_core.specs.Fits.{SpotFits, TableFits};
+ghost use Rattle.node_core.specs.Fits.{IsBefore, IsTaskBefore, SpotFits, TableFits};
 ghost use Rattle.node_core.specs.Lookup.{consumer_place, has_round, mode_at, mode_of_round, own_message, own_slot, own_task, round_at, sends};
 ghost use Rattle.node_core.specs.Rules.{message_in};
 
@@ -86,17 +86,20 @@ pub(crate) fn own_slot(round: &OwnRound, slot: u8) -> Option<&OwnSlot>
 
 /// The own message with this number.
 pub(crate) fn own_message(mode: &ModeTable, number: u32) -> Option<&OwnMessage>
+    requires { AllPairs IsBefore mode.now.messages }
     ensures { option_copied result ≡ own_message mode.now.messages number }
 {
-    mode.messages
-        .as_slice()
-        .iter()
-        .find(|message| message.number == number)
+    let messages = mode.messages.as_slice();
+    match messages.binary_search_by_key(&number, |message| message.number) {
+        Ok(place) => Some(&messages[place]),
+        Err(_) => None,
+    }
 }
 
 /// The own message of a slot of a round, from 1.
 pub(crate) fn message_of_slot(mode: &ModeTable, round: usize, slot: u8) -> Option<&OwnMessage>
-    requires { round < length mode.now.rounds }
+    requires round { round < length mode.now.rounds }
+    requires ascending { AllPairs IsBefore mode.now.messages }
     ensures { option_copied result ≡ message_in mode.now (own_slot (round_at mode.now round) slot) }
 {
     match own_slot(round_at(mode, round), slot) {
@@ -107,12 +110,14 @@ pub(crate) fn message_of_slot(mode: &ModeTable, round: usize, slot: u8) -> Optio
 
 /// The own task with this number.
 pub(crate) fn own_task(mode: &ModeTable, number: u32) -> Option<&OwnTask>
+    requires { AllPairs IsTaskBefore mode.now.tasks }
     ensures { option_copied result ≡ own_task mode.now.tasks number }
 {
-    mode.tasks
-        .as_slice()
-        .iter()
-        .find(|task| task.number == number)
+    let tasks = mode.tasks.as_slice();
+    match tasks.binary_search_by_key(&number, |task| task.number) {
+        Ok(place) => Some(&tasks[place]),
+        Err(_) => None,
+    }
 }
 
 /// The place of a task among the consumers of a message on the node.
