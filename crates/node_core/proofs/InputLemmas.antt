@@ -1,18 +1,17 @@
 -- The inputs of a start
-use Rattle.std.proofs.Common.{◌≡◌, ℕ, zero, suc, ◌+◌, ◌<◌, ◌≤◌, nat_eq, List, [], ◌∷◌, ◌++◌, length, get_or, set, map, fold, replicate, All, Option, Some, None, IfSome, ℤ, refl, ap, sym, ◌∙◌, subst, arith, length-append, append_assoc, add-one, drop, drop-cons}
-use Rattle.std.specs.List.{find, AllByRecursion, AllPairs}
+use Rattle.std.proofs.Common.{◌≡◌, ℕ, zero, suc, ◌+◌, ◌<◌, ◌≤◌, nat_eq, List, [], ◌∷◌, ◌++◌, length, get_or, set, fold, Option, Some, None, IfSome, ℤ, refl, ap, sym, ◌∙◌, subst, arith, length-append, append_assoc, add-one, drop, drop-cons}
+use Rattle.std.specs.List.{AllByRecursion, AllPairs}
 use Rattle.std.proofs.lemmas.Bool.{eqb-true}
 use Rattle.std.proofs.lemmas.List.{length-map, length-replicate}
 use Rattle.std.proofs.lemmas.List.Elements.{All-set, recursion_from_All}
 use Rattle.runtime_model.specs.Inputs.{given}
-use Rattle.node_tables.specs.declared.tables.ModeTable.{ModeTable}
 use Rattle.node_tables.specs.declared.tables.OwnTask.{OwnTask}
 use Rattle.node_tables.specs.declared.tables.OwnMessage.{OwnMessage}
 use Rattle.node_core.specs.Lookup.{consumer_place, own_message, own_task}
 use Rattle.node_core.specs.Registers.{InRow, RegistersSeen, row_of, inputs_at, inputs_from, inputs_of, emptied_at, emptied_for}
 use Rattle.node_core.specs.Running.{RunningNode, mode_of}
 use Rattle.node_core.specs.Conditions.{IsOwnAndDue, MayStart}
-use Rattle.node_core.specs.Fits.{ModeFits, RowFits, InsFit, IsBefore, NodeFits, count_at, input_count}
+use Rattle.node_core.specs.Fits.{RowFits, InsFit, IsBefore, NodeFits, count_at, input_count}
 use Rattle.node_core.proofs.NodeLemmas.{mode_fits}
 use Rattle.node_core.proofs.SearchLemmas.{later, rest_ascends, each_is_found}
 use Rattle.node_core.proofs.MessageLemmas.{found_is, found_passes, row_written, no_row_fits}

@@ -1,17 +1,16 @@
 -- Where a node stands
-use Rattle.std.proofs.Common.{◌≡◌, ℕ, zero, suc, replicate, ◌+◌, ◌-◌, ◌<◌, ◌≤◌, Bool, true, false, cond, not, ◌&&◌, nat_lt, nat_le, List, [], length, get_or, All, Option, Some, None, unwrap_or, ℤ, pos, ◌+ℤ◌, ◌-ℤ◌, ◌≤ℤ◌, ◌<ℤ◌, refl, ap, sym, ◌∙◌, subst, arith}
-use Rattle.std.specs.Prelude.{int_lt, int_le}
+use Rattle.std.proofs.Common.{◌≡◌, ℕ, zero, suc, replicate, ◌+◌, ◌-◌, ◌<◌, ◌≤◌, Bool, true, false, cond, not, ◌&&◌, nat_lt, nat_le, List, [], length, get_or, Option, Some, None, unwrap_or, ℤ, pos, ◌+ℤ◌, ◌-ℤ◌, ◌≤ℤ◌, ◌<ℤ◌, refl, sym, subst, arith}
+use Rattle.std.specs.Prelude.{int_lt}
 use Rattle.std.specs.List.{AllPairs, position}
 use Rattle.std.specs.Ordering.{int_eq}
 use Rattle.std.proofs.lemmas.Bool.Decides.{nat_tests}
 use Rattle.std.proofs.lemmas.Int.{ints}
 use Rattle.std.proofs.lemmas.List.Quantifiers.{position-Some}
-use Rattle.std.proofs.lemmas.List.{get_or-replicate}
 use Rattle.node_tables.specs.declared.tables.NodeTable.{NodeTable}
 use Rattle.node_tables.specs.declared.tables.ModeTable.{ModeTable}
 use Rattle.node_tables.specs.declared.tables.OwnRound.{OwnRound}
 use Rattle.node_tables.specs.declared.tables.OwnMessage.{OwnMessage}
-use Rattle.node_core.specs.Lookup.{mode_at, no_mode, round_at, no_round, has_round, mode_of_round, own_message}
+use Rattle.node_core.specs.Lookup.{mode_at, no_mode, round_at, no_round, has_round, mode_of_round}
 use Rattle.node_core.specs.Registers.{InRow, RegistersSeen, no_ins, no_registers, row_of}
 use Rattle.node_core.specs.Running.{RunningNode, mode_of}
 use Rattle.node_core.specs.Rules.{in_last_round, next_round, has_turned, next_start, passed, turned}

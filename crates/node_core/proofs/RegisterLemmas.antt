@@ -1,7 +1,6 @@
 -- Lists of registers
-use Rattle.std.proofs.Common.{◌≡◌, ℕ, zero, suc, Bool, true, cond, List, [], ◌∷◌, ◌++◌, map, replicate, Option, Some, None, ℤ, refl, ap, sym, ◌∙◌, length, ◌<◌, drop, slice_set, arith}
+use Rattle.std.proofs.Common.{◌≡◌, ℕ, zero, suc, Bool, true, cond, List, [], ◌∷◌, ◌++◌, map, replicate, Option, Some, None, ℤ, refl, ap, ◌∙◌, length, ◌<◌, drop, slice_set, arith}
 use Rattle.std.proofs.lemmas.List.{length-replicate}
-use Rattle.runtime_model.specs.Packets.{all_present, both}
 use Rattle.node_core.specs.Registers.{InRow, RegistersSeen, no_outs, no_ins, no_registers}
 
 -- registers that are all full with one packet

@@ -1,5 +1,5 @@
 -- What a node looks up in its table
-use Rattle.std.specs.Prelude.{ℕ, ◌+◌, Bool, not, ◌&&◌, ◌||◌, nat_eq, nat_le, nat_lt, List, [], length, slice_index_or, unwrap_or, Option, ℤ, pos}
+use Rattle.std.specs.Prelude.{ℕ, ◌+◌, Bool, ◌&&◌, ◌||◌, nat_eq, nat_le, nat_lt, List, [], length, slice_index_or, unwrap_or, Option, pos}
 use Rattle.std.specs.List.{find, position}
 use Rattle.node_tables.specs.declared.tables.NodeTable.{NodeTable}
 use Rattle.node_tables.specs.declared.tables.ModeTable.{ModeTable}

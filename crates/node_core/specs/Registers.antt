@@ -1,5 +1,5 @@
 -- What a node's registers hold, and what the calls do to them
-use Rattle.std.specs.Prelude.{ℕ, List, [], ◌∷◌, length, map, fold, replicate, slice_index_or, slice_set, Option, Some, None, nat_eq, cond, ℤ}
+use Rattle.std.specs.Prelude.{ℕ, List, [], length, map, fold, replicate, slice_index_or, slice_set, Option, Some, None, nat_eq, cond, ℤ}
 use Rattle.std.specs.List.{flat_map}
 use Rattle.runtime_model.specs.Inputs.{given}
 use Rattle.runtime_model.specs.Packets.{all_present}

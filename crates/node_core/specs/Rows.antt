@@ -1,14 +1,13 @@
 -- Worked rows: what nodes of a loop of three tasks do, computed from the rules.
 -- `sense` on node 1 sends `m1` to `ctrl` on node 0, which sends `m2` to `act` on node 2. The tick is that of the hyperperiod, of 100 ticks
-use Rattle.std.specs.Prelude.{◌≡◌, ℕ, Bool, true, false, List, [], ◌∷◌, Option, Some, None, ℤ, pos, negsuc}
+use Rattle.std.specs.Prelude.{◌≡◌, ℕ, true, false, [], ◌∷◌, Some, None, pos, negsuc}
 use Rattle.beacon_codec.specs.declared.packet.Beacon.{Beacon}
-use Rattle.task_body.specs.Tally.{first_numbers, numbers_after_reset}
+use Rattle.task_body.specs.Tally.{first_numbers}
 use Rattle.node_tables.specs.declared.tables.NodeTable.{NodeTable}
 use Rattle.node_tables.specs.declared.tables.ModeTable.{ModeTable}
-use Rattle.node_core.specs.declared.packet.Packet.{Packet}
-use Rattle.node_core.specs.Registers.{no_registers, no_outs}
+use Rattle.node_core.specs.Registers.{no_registers}
 use Rattle.node_core.specs.Running.{RunningNode}
-use Rattle.node_core.specs.Rules.{announced, body_after, coasted, end_answer, ended, first_heard, heard, next_start, passed, received, sent, start_answer, started, takes}
+use Rattle.node_core.specs.Rules.{announced, coasted, end_answer, ended, first_heard, heard, next_start, passed, received, sent, start_answer, started, takes}
 
 -- ---- the tables: rounds start at 0 and 23; `m2` has its slot in the first one, for a release one period before, and `m1` in the second one
 

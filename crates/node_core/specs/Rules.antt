@@ -1,5 +1,5 @@
 -- The rules of a node: what each call does to it, and what it answers
-use Rattle.std.specs.Prelude.{ℕ, suc, ◌-◌, Bool, true, false, cond, not, ◌&&◌, nat_eq, nat_lt, int_le, int_lt, List, [], length, Option, Some, None, ℤ, pos, ◌+ℤ◌, ◌-ℤ◌}
+use Rattle.std.specs.Prelude.{ℕ, suc, ◌-◌, Bool, true, false, cond, not, ◌&&◌, nat_eq, nat_lt, int_le, int_lt, List, length, Option, Some, None, ℤ, pos, ◌+ℤ◌, ◌-ℤ◌}
 use Rattle.std.specs.Ordering.{int_eq}
 use Rattle.beacon_codec.specs.declared.packet.Beacon.{Beacon}
 use Rattle.task_body.specs.Tally.{answer, numbers_after_fire}

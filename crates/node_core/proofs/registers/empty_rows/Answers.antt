@@ -1,4 +1,4 @@
-use Rattle.std.proofs.Common.{ℕ, List, [], slice_set, ap, sym, ◌∙◌, add-one}
+use Rattle.std.proofs.Common.{List, [], slice_set, ap, ◌∙◌, add-one}
 use Rattle.node_core.specs.Registers.{InRow}
 use Rattle.node_core.proofs.RegisterLemmas.{written_more}
 use Rattle.node_core.proofs.registers.empty_rows.Goals as goal

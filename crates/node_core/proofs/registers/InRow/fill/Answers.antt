@@ -1,4 +1,4 @@
-use Rattle.std.proofs.Common.{◌≡◌, replicate, true, arith}
+use Rattle.std.proofs.Common.{true, arith}
 use Rattle.node_core.proofs.RegisterLemmas.{all_full, same_replicate}
 use Rattle.node_core.proofs.registers.InRow.fill.Goals as goal
 

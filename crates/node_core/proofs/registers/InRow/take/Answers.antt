@@ -1,4 +1,4 @@
-use Rattle.std.proofs.Common.{Bool, false, cond, List, Option, Some, None, ℤ, map, slice_set, ap, ◌∙◌}
+use Rattle.std.proofs.Common.{Bool, false, cond, List, Some, None, map, slice_set, ap, ◌∙◌}
 use Rattle.std.proofs.lemmas.List.{map-set}
 use Rattle.node_core.specs.Registers.{InRow}
 use Rattle.node_core.proofs.registers.InRow.take.Goals as goal

@@ -1,4 +1,4 @@
-use Rattle.std.proofs.Common.{rules, SFits, w64, ℕ, List, subst, sym}
+use Rattle.std.proofs.Common.{rules, SFits, w64, ℕ, subst, sym}
 use Rattle.std.proofs.lemmas.Int.{to_z-of_z}
 use Rattle.node_core.specs.Lookup.{mode_at}
 use Rattle.node_core.specs.Fits.{InsFit}

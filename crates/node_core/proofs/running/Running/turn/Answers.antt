@@ -1,4 +1,4 @@
-use Rattle.std.proofs.Common.{ap, sym, subst, ℤ, pos, ◌<ℤ◌, arith}
+use Rattle.std.proofs.Common.{sym, subst, ◌<ℤ◌, arith}
 use Rattle.std.proofs.lemmas.Int.{ints}
 use Rattle.node_core.specs.Lookup.{mode_at}
 use Rattle.node_core.specs.Running.{RunningNode, mode_of}
