@@ -1,11 +1,12 @@
 -- Where a node stands
-use Rattle.std.proofs.Common.{◌≡◌, ℕ, zero, suc, replicate, ◌+◌, ◌-◌, ◌<◌, ◌≤◌, Bool, true, false, cond, not, ◌&&◌, nat_lt, nat_le, List, [], length, get_or, Option, Some, None, unwrap_or, ℤ, pos, ◌+ℤ◌, ◌-ℤ◌, ◌≤ℤ◌, ◌<ℤ◌, refl, sym, subst, arith}
+use Rattle.std.proofs.Common.{◌≡◌, ℕ, zero, suc, replicate, ◌+◌, ◌-◌, ◌<◌, ◌≤◌, Bool, true, false, cond, not, ◌&&◌, nat_eq, ap, nat_lt, nat_le, List, [], length, get_or, Option, Some, None, unwrap_or, ℤ, pos, ◌+ℤ◌, ◌-ℤ◌, ◌≤ℤ◌, ◌<ℤ◌, refl, sym, subst, arith}
 use Rattle.std.specs.Prelude.{int_lt}
 use Rattle.std.specs.List.{AllPairs, position}
 use Rattle.std.specs.Ordering.{int_eq}
 use Rattle.std.proofs.lemmas.Bool.Decides.{nat_tests}
 use Rattle.std.proofs.lemmas.Int.{ints}
 use Rattle.std.proofs.lemmas.List.Quantifiers.{position-Some}
+use Rattle.beacon_codec.specs.declared.packet.Beacon.{Beacon}
 use Rattle.node_tables.specs.declared.tables.NodeTable.{NodeTable}
 use Rattle.node_tables.specs.declared.tables.ModeTable.{ModeTable}
 use Rattle.node_tables.specs.declared.tables.OwnRound.{OwnRound}
@@ -13,7 +14,7 @@ use Rattle.node_tables.specs.declared.tables.OwnMessage.{OwnMessage}
 use Rattle.node_core.specs.Lookup.{mode_at, no_mode, round_at, no_round, has_round, mode_of_round}
 use Rattle.node_core.specs.Registers.{InRow, RegistersSeen, no_ins, no_registers, row_of}
 use Rattle.node_core.specs.Running.{RunningNode, mode_of}
-use Rattle.node_core.specs.Rules.{in_last_round, next_round, has_turned, next_start, passed, turned}
+use Rattle.node_core.specs.Rules.{at_round, first_heard, heard, in_last_round, next_round, has_turned, next_start, passed, turned}
 use Rattle.node_core.specs.Conditions.{MayPass}
 use Rattle.node_core.specs.Fits.{IsBefore, IsTaskBefore, TableFits, ModeFits, StartFits, SpotFits, RowFits, InsFit, NodeFits}
 
@@ -75,6 +76,14 @@ no_ins_fit messages m found = subst (λ (row : InRow). RowFits (length m.produce
 
 pub emptied_fit : (messages : List OwnMessage) (g : RegistersSeen) → g ≡ no_registers → InsFit messages g.ins
 emptied_fit messages g e = subst (λ (h : RegistersSeen). InsFit messages h.ins) (sym e) (no_ins_fit messages)
+
+same_empty : (b : Bool) (g : RegistersSeen) → g ≡ no_registers → cond b g no_registers ≡ no_registers
+same_empty true g e = e
+same_empty false g e = refl
+
+-- a node without registers is after a beacon as one that hears its first
+pub heard_empty : (n : RunningNode) (b : Beacon) → n.registers ≡ no_registers → heard n b ≡ first_heard n.table b
+heard_empty n b e = ap (λ (g : RegistersSeen). at_round n.table b (mode_of_round n.table b.round) g) (same_empty (nat_eq (mode_of_round n.table b.round) n.mode) n.registers e)
 
 -- a node before it hears a beacon
 pub first_spot_fits : (t : NodeTable) → TableFits t → SpotFits t 0 0 (pos 0)

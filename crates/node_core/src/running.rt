@@ -6,7 +6,7 @@ ghost use Rattle.runtime_model.specs.Placement.{placed};
 ghost use Rattle.node_core.specs.Conditions.{MayHear, MayMiss, MayPass, MayReceive, MayStart};
 ghost use Rattle.node_core.specs.Fits.{TableFits};
 ghost use Rattle.node_core.specs.Registers.{no_registers};
-ghost use Rattle.node_core.specs.Rules.{announced, body_after, coasted, end_answer, ended, first_heard, heard, passed, phase_known, received, sent, start_answer, started, starts, takes, turned};
+ghost use Rattle.node_core.specs.Rules.{announced, body_after, coasted, end_answer, ended, heard, passed, phase_known, received, sent, start_answer, started, starts, takes, turned};
 ghost use Rattle.node_core.specs.Running.{mode_of};
 
 use crate::lookup::{message_of_slot, mode_at, own_message, own_slot, own_task, round_at, spot_of};
@@ -78,22 +78,6 @@ impl Running {
         if spot.mode != self.mode {
             self.registers.empty();
         }
-        self.heard = b;
-        self.mode = spot.mode;
-        self.round = spot.round;
-        self.tick = spot.start;
-        self.at_beacon = true;
-        self.opening = b.opening;
-        self.draining = b.trigger;
-    }
-
-    /// The same for a node whose registers are empty.
-    pub(crate) fn hear_first(&mut self, b: Beacon)
-        requires may { MayHear self.old.table b }
-        requires empty { self.old.registers ≡ no_registers }
-        ensures { self.new ≡ first_heard self.old.table b }
-    {
-        let spot = spot_of(&self.table, b.round);
         self.heard = b;
         self.mode = spot.mode;
         self.round = spot.round;

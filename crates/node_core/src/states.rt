@@ -89,7 +89,7 @@ impl Listening {
         requires { MayHear self b }
         ensures { result ≡ first_heard self b }
     {
-        self.kept.hear_first(b);
+        self.kept.hear(b);
         Synced { kept: self.kept }
     }
 
