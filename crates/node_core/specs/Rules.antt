@@ -4,7 +4,7 @@ use Rattle.std.specs.Ordering.{int_eq}
 use Rattle.beacon_codec.specs.declared.packet.Beacon.{Beacon}
 use Rattle.task_body.specs.Tally.{answer, numbers_after_fire}
 use Rattle.runtime_model.specs.Timeline.{PlainPhase, steady, drain}
-use Rattle.runtime_model.specs.Placement.{placed}
+use Rattle.runtime_model.specs.Placement.{placed, not_negative}
 use Rattle.node_tables.specs.declared.tables.NodeTable.{NodeTable}
 use Rattle.node_tables.specs.declared.tables.ModeTable.{ModeTable}
 use Rattle.node_tables.specs.declared.tables.OwnTask.{OwnTask}
@@ -86,9 +86,9 @@ passed n ticks =
 abbrev pub phase_known : RunningNode → PlainPhase
 phase_known n = cond n.draining (drain n.heard.mode) steady
 
--- a slot is placed for the node
+-- a slot is placed for the node: it is of this hyperperiod or a later one where its release is not negative
 abbrev pub slot_placed : RunningNode → OwnSlot → Bool
-slot_placed n s = placed n.opening (phase_known n) (int_le (pos 0) s.release)
+slot_placed n s = placed n.opening (phase_known n) (not_negative s.release)
 
 -- the own message of an own slot of a mode
 abbrev pub message_in : ModeTable → Option OwnSlot → Option OwnMessage
@@ -138,7 +138,7 @@ received n slot packet = record n { registers = registers_with (message_of_slot 
 
 -- ---- runs
 
--- a start of the task at the node's tick is placed
+-- a start of the task at the node's tick is placed: it is of this hyperperiod or a later one where the tick isn't before the offset
 abbrev pub start_placed : RunningNode → Option OwnTask → Bool
 start_placed n None = false
 start_placed n (Some t) = placed n.opening (phase_known n) (int_le t.offset n.tick)

@@ -2,7 +2,7 @@
 
 ghost use Rattle.std.specs.Prelude.{◌&&◌, ◌+ℤ◌, ◌-ℤ◌, ◌<◌, ◌<ℤ◌, ◌≡◌, ◌≤ℤ◌, pos};
 ghost use Rattle.std.specs.Ordering.{int_eq};
-ghost use Rattle.runtime_model.specs.Placement.{placed};
+ghost use Rattle.runtime_model.specs.Placement.{not_negative, placed};
 ghost use Rattle.node_core.specs.Conditions.{MayHear, MayMiss, MayPass, MayReceive, MayStart};
 ghost use Rattle.node_core.specs.Fits.{TableFits};
 ghost use Rattle.node_core.specs.Registers.{no_registers};
@@ -152,7 +152,7 @@ impl Running {
         let Some(own) = own_slot(round_at(mode, self.round), slot) else {
             return None;
         };
-        if !self.is_placed(own.release >= 0) {
+        if !self.is_placed(is_not_negative(own.release)) {
             return None;
         }
         let Some(message) = own_message(mode, own.message) else {
@@ -263,4 +263,11 @@ fn rest_of(tick: Time, hyper: Time) -> Time
     ensures { result ≡ tick -ℤ hyper }
 {
     tick - hyper
+}
+
+/// Whether a release is at the hyperperiod's start or later.
+fn is_not_negative(release: Time) -> bool
+    ensures { result ≡ not_negative release }
+{
+    release >= 0
 }

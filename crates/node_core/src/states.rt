@@ -73,7 +73,8 @@ impl Model for Coasting {
 }
 
 impl Listening {
-    /// A node with this table, which is within the limits. Takes all the memory that the node will need.
+    /// A node with this table, which is within the limits. Takes all the memory that the node will ever need;
+    /// the one error is want of memory. docs/NODES.md has the rules of all calls, and their conditions.
     pub fn make(alloc: Global, table: NodeTable) -> Result<Self, AllocError>
         requires { TableFits table }
         ensures { IfOk result (λ n. n ≡ table) }
@@ -84,7 +85,7 @@ impl Listening {
         })
     }
 
-    /// Hears a beacon, and goes to the start of its round.
+    /// Hears a beacon of a round of the table, and goes to the start of that round.
     pub fn hear(mut self, b: Beacon) -> Synced
         requires { MayHear self b }
         ensures { result ≡ first_heard self b }
@@ -160,7 +161,7 @@ impl Synced {
         self.kept.receive(slot, packet)
     }
 
-    /// Starts a task at the node's tick, where the start is placed: fires the body with the inputs from the task's in registers,
+    /// Starts a task of the node's mode that is due at its tick, while no run is in progress, where the start is placed: fires the body with the inputs from the task's in registers,
     /// which are then empty, and begins a run. Answers the inputs. A start that isn't placed changes nothing.
     pub fn start(&mut self, task: u32, body: &mut Tally) -> Option<Inputs>
         requires { MayStart self.old task }
@@ -216,7 +217,7 @@ impl Coasting {
         self.kept.pass(ticks);
     }
 
-    /// Starts a task at the node's tick, where the start is placed: fires the body with the inputs from the task's in registers,
+    /// Starts a task of the node's mode that is due at its tick, while no run is in progress, where the start is placed: fires the body with the inputs from the task's in registers,
     /// which are then empty, and begins a run. Answers the inputs. A start that isn't placed changes nothing.
     pub fn start(&mut self, task: u32, body: &mut Tally) -> Option<Inputs>
         requires { MayStart self.old task }
