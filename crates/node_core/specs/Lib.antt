@@ -5,3 +5,4 @@ pub mod Rules
 pub mod Conditions
 pub mod Fits
 pub mod Rows
+pub mod Kinds

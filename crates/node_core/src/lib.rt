@@ -2,6 +2,7 @@
 //! docs/NODES.md has the rules.
 #![tactic(auto)]
 
+pub mod laws;
 mod lookup;
 mod packet;
 mod registers;

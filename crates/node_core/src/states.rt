@@ -1,10 +1,10 @@
 //! The three states of a node.
 
-ghost use Rattle.std.specs.Prelude.{◌≡◌, ◌<◌, IfOk, cond};
+ghost use Rattle.std.specs.Prelude.{◌≡◌, ◌<◌, IfOk};
 ghost use Rattle.node_core.specs.Conditions.{MayHear, MayMiss, MayPass, MayReceive, MayStart, MayUseSlot};
 ghost use Rattle.node_core.specs.Fits.{TableFits};
-ghost use Rattle.node_core.specs.Rules.{announced, body_after, coasted, end_answer, ended, first_heard, heard, passed, received, sent, start_answer, started, takes};
-ghost use Rattle.node_core.specs.declared.states.Missed.TheVariants.{Coasted, StoodDown};
+ghost use Rattle.node_core.specs.Kinds.{after_miss};
+ghost use Rattle.node_core.specs.Rules.{body_after, end_answer, ended, first_heard, heard, passed, received, sent, start_answer, started, takes};
 
 use crate::packet::{Inputs, Packet};
 use crate::registers::Registers;
@@ -116,7 +116,7 @@ impl Synced {
     /// Misses the beacon of the next round, to whose start the node has come.
     pub fn miss(mut self) -> Missed
         requires { MayMiss self }
-        ensures { result ≡ cond (announced self) (StoodDown self.table) (Coasted (coasted self)) }
+        ensures { result ≡ after_miss self }
     {
         if self.kept.announced() {
             Missed::StoodDown(stood_down(self.kept))

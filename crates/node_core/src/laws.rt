@@ -1,0 +1,8 @@
+//! What the states of nodes have to do with the definitions of the runtime.
+
+ghost use Rattle.node_core.specs.Kinds.{MissesByTheRule};
+
+/// A Synced node that misses a beacon is in the state that the runtime's rule of a missed beacon gives.
+pub fn misses_by_the_rule()
+    ensures { MissesByTheRule }
+{}
