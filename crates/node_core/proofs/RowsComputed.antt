@@ -1,7 +1,7 @@
 -- The worked rows, by computing
 use Rattle.std.proofs.Common.{refl}
 use Rattle.node_core.specs.Registers.{no_outs, no_ins}
-use Rattle.node_core.specs.Rows.{Misses, SenseRuns, ControlSends, TakesAPacket, ActRuns, OtherModeEmpties, DrainEmpties, DrainPlaces}
+use Rattle.node_core.specs.Rows.{Misses, SenseRuns, ControlSends, TakesAPacket, ActRuns, OtherModeEmpties, DrainEmpties, DrainPlaces, FourProducers}
 
 pub misses : Misses
 misses = (refl, refl, refl, refl, refl)
@@ -31,3 +31,7 @@ drain_empties = (refl, refl, refl, refl)
 pub drain_places : DrainPlaces
 unfolding no_outs no_ins
 drain_places = (refl, refl)
+
+pub four_producers : FourProducers
+unfolding no_outs no_ins
+four_producers = (refl, refl, refl)

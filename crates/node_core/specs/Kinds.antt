@@ -1,5 +1,5 @@
 -- The states of nodes as the runtime's definitions have them
-use Rattle.std.specs.Prelude.{◌≡◌, Bool, true, false, cond}
+use Rattle.std.specs.Prelude.{◌≡◌, cond}
 use Rattle.runtime_model.specs.NodeKinds.{NodeKind, listening, in_sync, coasting, missed}
 use Rattle.node_core.specs.declared.states.Missed.{Missed}
 use Rattle.node_core.specs.declared.states.Missed.TheVariants.{Coasted, StoodDown}

@@ -1,10 +1,11 @@
 -- Worked rows: what nodes of a loop of three tasks do, computed from the rules.
 -- `sense` on node 1 sends `m1` to `ctrl` on node 0, which sends `m2` to `act` on node 2. The tick is that of the hyperperiod, of 100 ticks
-use Rattle.std.specs.Prelude.{◌≡◌, ℕ, true, false, [], ◌∷◌, Some, None, pos, negsuc}
+use Rattle.std.specs.Prelude.{◌≡◌, ℕ, true, false, List, [], ◌∷◌, slice_set, Some, None, ℤ, pos, negsuc}
 use Rattle.beacon_codec.specs.declared.packet.Beacon.{Beacon}
 use Rattle.task_body.specs.Tally.{first_numbers}
 use Rattle.node_tables.specs.declared.tables.NodeTable.{NodeTable}
 use Rattle.node_tables.specs.declared.tables.ModeTable.{ModeTable}
+use Rattle.node_tables.specs.declared.tables.OwnTask.{OwnTask}
 use Rattle.node_core.specs.Registers.{no_registers}
 use Rattle.node_core.specs.Running.{RunningNode}
 use Rattle.node_core.specs.Rules.{announced, coasted, end_answer, ended, first_heard, heard, next_start, passed, received, sent, start_answer, started, takes}
@@ -162,3 +163,39 @@ abbrev pub DrainPlaces : Type 0
 DrainPlaces =
     ((sent (heard control_ended (draining_beacon 1)) 1 ≡ Some (record { message = 1; values = pos 1 ∷ [] }))
     × (start_answer (passed (heard (passed (heard control_ended (draining_beacon 1)) (pos 23)) (draining_beacon 2)) (pos 20)) 1 ≡ None))
+
+-- ---- a message of four producers, in the last slot of a round
+
+-- the producer with this number, which runs for one tick from this offset on
+abbrev pub producer : ℕ → ℕ → OwnTask
+producer number offset = record { number = number; period = pos 100; offset = pos offset; wcet = pos 1 }
+
+abbrev pub four_table : NodeTable
+four_table = record {
+  node = 5;
+  modes = record {
+    hyper = pos 100;
+    first_round = 1;
+    tasks = producer 0 1 ∷ producer 1 3 ∷ producer 2 5 ∷ producer 1023 7 ∷ [];
+    messages = record { number = 511; role = 1; producers = 1023 ∷ 2 ∷ 1 ∷ 0 ∷ []; consumers = [] } ∷ [];
+    rounds = record { start = pos 0; slots = [] } ∷ record { start = pos 20; slots = record { slot = 32; message = 511; release = pos 0 } ∷ [] } ∷ [];
+  } ∷ [];
+}
+
+-- one tick on, the task runs for one tick, fired with these numbers of its body
+abbrev pub ran : ℕ → List ℤ → RunningNode → RunningNode
+ran task numbers n = ended (passed (started (passed n (pos 1)) task numbers) (pos 1)) task
+
+-- a body whose number of one task is this one
+abbrev pub numbered : ℕ → ℤ → List ℤ
+numbered task value = slice_set first_numbers task value
+
+abbrev pub three_ran : RunningNode
+three_ran = ran 2 (numbered 2 (pos 29)) (ran 1 (numbered 1 (pos 19)) (ran 0 (numbered 0 (pos 9)) (first_heard four_table (opening_beacon 1))))
+
+-- with three of four values nothing is sent; with all four they stand in the order of the message's producers
+abbrev pub FourProducers : Type 0
+FourProducers =
+    ((sent (heard (passed three_ran (pos 14)) (opening_beacon 2)) 32 ≡ None)
+    × (sent (heard (passed (ran 1023 (numbered 1023 (pos 39)) three_ran) (pos 12)) (opening_beacon 2)) 32 ≡ Some (record { message = 511; values = pos 40 ∷ pos 30 ∷ pos 20 ∷ pos 10 ∷ [] }))
+    × (sent (heard (passed (ran 1023 (numbered 1023 (pos 39)) three_ran) (pos 12)) (opening_beacon 2)) 31 ≡ None))

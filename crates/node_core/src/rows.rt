@@ -1,6 +1,6 @@
 //! Worked rows: what nodes of a loop of three tasks do, computed from the rules alone.
 
-ghost use Rattle.node_core.specs.Rows.{ActRuns, ControlSends, DrainEmpties, DrainPlaces, Misses, OtherModeEmpties, SenseRuns, TakesAPacket};
+ghost use Rattle.node_core.specs.Rows.{ActRuns, ControlSends, DrainEmpties, DrainPlaces, FourProducers, Misses, OtherModeEmpties, SenseRuns, TakesAPacket};
 
 /// A node coasts past one beacon, unless the last one that it heard announced a change.
 pub fn misses()
@@ -28,4 +28,9 @@ pub fn emptied_registers()
 /// A draining hyperperiod places the entries of earlier releases alone.
 pub fn draining_placed()
     ensures { DrainPlaces }
+{}
+
+/// A packet has the values of all four producers of a message, or is not sent.
+pub fn four_producers()
+    ensures { FourProducers }
 {}
