@@ -188,6 +188,11 @@ fn misses(rt: HostRuntime) -> Result<(), Fail> {
 
 #[test]
 fn misses_after_an_announced_change(rt: HostRuntime) -> Result<(), Fail> {
+    let warning = Beacon {
+        mode: 1,
+        ..beacon(2, false)
+    };
+    assert_eq!(rt; encode(warning), [0, 2, 1, 0]);
     let mut node = sense_in_second_round(rt.alloc(), 1)?;
     node.pass(77);
     match node.miss() {
