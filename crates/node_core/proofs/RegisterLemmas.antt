@@ -1,7 +1,10 @@
 -- Lists of registers
-use Rattle.std.proofs.Common.{◌≡◌, ℕ, zero, suc, Bool, true, cond, List, [], ◌∷◌, ◌++◌, map, replicate, Option, Some, None, ℤ, refl, ap, ◌∙◌, length, ◌<◌, drop, slice_set, arith}
-use Rattle.std.proofs.lemmas.List.{length-replicate}
-use Rattle.node_core.specs.Registers.{InRow, RegistersSeen, no_outs, no_ins, no_registers}
+use Rattle.std.proofs.Common.{◌≡◌, ℕ, zero, suc, Bool, true, cond, List, [], ◌∷◌, ◌++◌, map, fold, replicate, Option, Some, None, ℤ, refl, ap, ◌∙◌, length, ◌<◌, drop, slice_set, arith}
+use Rattle.std.proofs.lemmas.List.{length-replicate, length-set}
+use Rattle.node_tables.specs.declared.tables.OwnMessage.{OwnMessage}
+use Rattle.node_core.specs.Lookup.{consumer_place}
+use Rattle.node_core.specs.Registers.{InRow, RegistersSeen, no_outs, no_ins, no_registers, filled, row_of, emptied_at, emptied_for, begun, ended_with}
+use Rattle.node_core.specs.Fits.{HasRoom}
 
 -- registers that are all full with one packet
 pub map-replicate_full : (values : List ℤ) (n : ℕ) → map (λ f. cond f (Some values) None) (replicate n true) ≡ replicate n (Some values)
@@ -37,6 +40,34 @@ length-no_outs = length-replicate {A = Option ℤ} 1024 None
 pub length-no_ins : length no_ins ≡ 512
 unfolding no_ins
 length-no_ins = length-replicate {A = InRow} 512 []
+
+-- empty registers have room
+pub emptied_room : (g : RegistersSeen) → g ≡ no_registers → HasRoom g
+emptied_room g e = record {
+  outs = ap (λ (x : RegistersSeen). length x.outs) e ∙ length-no_outs;
+  rows = ap (λ (x : RegistersSeen). length x.ins) e ∙ length-no_ins;
+}
+
+-- so have registers after a packet
+pub filled_room : (m : OwnMessage) (values : List ℤ) (g : RegistersSeen) → HasRoom g → HasRoom (filled m values g)
+filled_room m values g room = record { outs = room.outs; rows = length-set g.ins m.number (replicate (length m.consumers) (Some values)) ∙ room.rows }
+
+length-emptied_at : (ins : List InRow) (m : OwnMessage) (o : Option ℕ) → length (emptied_at ins m o) ≡ length ins
+length-emptied_at ins m None = refl
+length-emptied_at ins m (Some c) = length-set ins m.number (slice_set (row_of ins m.number) c None)
+
+length-taken : (task : ℕ) (ins : List InRow) (messages : List OwnMessage) → length (fold (emptied_for task) ins messages) ≡ length ins
+length-taken task ins [] = refl
+length-taken task ins (m ∷ messages) = length-taken task (emptied_for task ins m) messages ∙ length-emptied_at ins m (consumer_place task m)
+
+-- after a start
+pub begun_room : (task : ℕ) (value : ℤ) (messages : List OwnMessage) (g : RegistersSeen) → HasRoom g → HasRoom (begun task value messages g)
+begun_room task value messages g room = record { outs = room.outs; rows = length-taken task g.ins messages ∙ room.rows }
+
+-- and after an end
+pub ended_room : (task : ℕ) (o : Option ℤ) (g : RegistersSeen) → HasRoom g → HasRoom (ended_with task o g)
+ended_room task None g room = room
+ended_room task (Some value) g room = record { outs = length-set g.outs task (Some value) ∙ room.outs; rows = room.rows }
 
 -- one more place of a list is written with x
 pub written_more : {X : Type 0} (x : X) (old : List X) (i : ℕ) → i < length old → slice_set (replicate i x ++ drop i old) i x ≡ replicate (suc i) x ++ drop (suc i) old

@@ -7,7 +7,7 @@ use Rattle.node_tables.specs.declared.tables.OwnTask.{OwnTask}
 use Rattle.node_tables.specs.declared.tables.OwnMessage.{OwnMessage}
 use Rattle.node_tables.specs.declared.tables.OwnRound.{OwnRound}
 use Rattle.node_core.specs.Lookup.{mode_at, own_message, consumer_place}
-use Rattle.node_core.specs.Registers.{InRow, row_of}
+use Rattle.node_core.specs.Registers.{InRow, RegistersSeen, row_of}
 use Rattle.node_core.specs.Running.{RunningNode}
 
 -- the numbers of an own message are in range: it has at most 4 producers and 16 consumers
@@ -73,8 +73,14 @@ RowFits n row = All (λ x. IfSome x (λ values. length values ≡ n)) row
 abbrev pub InsFit : List OwnMessage → List InRow → Type 0
 InsFit messages ins = (m : OwnMessage) → own_message messages m.number ≡ Some m → RowFits (length m.producers) (row_of ins m.number)
 
--- a node stands in a mode and a round of its table, at a tick of the hyperperiod
+-- there is a register for every task number, and a row for every message number
+pub record HasRoom (g : RegistersSeen) : Type 0 where
+  pub outs : length g.outs ≡ 1024
+  pub rows : length g.ins ≡ 512
+
+-- a node stands in a mode and a round of its table, at a tick of the hyperperiod, and its registers fit
 pub record NodeFits (n : RunningNode) : Type 0 where
   pub table : TableFits n.table
   pub spot : SpotFits n.table n.mode n.round n.tick
   pub ins : InsFit (mode_at n.table n.mode).messages n.registers.ins
+  pub room : HasRoom n.registers

@@ -5,8 +5,9 @@ use Rattle.node_core.specs.Lookup.{mode_at, round_at, own_slot}
 use Rattle.node_core.specs.Registers.{RegistersSeen}
 use Rattle.node_core.specs.Running.{RunningNode}
 use Rattle.node_core.specs.Rules.{message_in}
-use Rattle.node_core.specs.Fits.{InsFit}
+use Rattle.node_core.specs.Fits.{HasRoom, InsFit}
 use Rattle.node_core.specs.Conditions.{MayReceive}
+use Rattle.node_core.proofs.RegisterLemmas.{filled_room}
 use Rattle.node_core.proofs.MessageLemmas.{slot_message_fits, received_fits}
 use Rattle.node_core.proofs.running.Running.receive.Goals as goal
 
@@ -27,4 +28,5 @@ invariant_of-self c =
       spot = c.self.invariant.spot;
       ins = subst (λ (g : RegistersSeen). InsFit (mode_at c.self.inside.table c.self.inside.mode).messages g.ins) (sym c.fill.ensures)
           (received_fits (the_view c.self.inside) c.args.slot c.args.packet.now c.in-Some.message.now c.self.invariant may found);
+      room = subst (λ (g : RegistersSeen). HasRoom g) (sym c.fill.ensures) (filled_room c.in-Some.message.now c.args.packet.now.values c.self.inside.registers c.self.invariant.room);
     }

@@ -1,10 +1,11 @@
-use Rattle.std.proofs.Common.{ap, ◌∙◌, sym, subst}
+use Rattle.std.proofs.Common.{ap, ◌∙◌, sym, subst, pos}
 use Rattle.node_tables.specs.declared.tables.ModeTable.{ModeTable}
 use Rattle.node_core.specs.contracts.running.Running.{the_view}
 use Rattle.node_core.specs.Registers.{RegistersSeen}
 use Rattle.node_core.specs.Running.{RunningNode, mode_of}
 use Rattle.node_core.specs.Conditions.{MayStart}
-use Rattle.node_core.specs.Fits.{InsFit}
+use Rattle.node_core.specs.Fits.{HasRoom, InsFit}
+use Rattle.node_core.proofs.RegisterLemmas.{begun_room}
 use Rattle.node_core.proofs.InputLemmas.{few_inputs, taken_fit, task_known}
 use Rattle.node_core.proofs.running.Running.start.Goals as goal
 
@@ -23,4 +24,7 @@ invariant_of-self c =
       ins = subst (λ (g : RegistersSeen). InsFit (mode_of (the_view c.self.inside)).messages g.ins) (sym c.begin.ensures)
           (subst (λ (g : RegistersSeen). InsFit (mode_of (the_view c.self.inside)).messages g.ins) (sym c.take_inputs-inputs.ensures.emptied)
           (taken_fit (mode_of (the_view c.self.inside)).messages c.args.task c.self.inside.registers.ins c.as_slice-messages.result.now c.self.invariant.ins));
+      room = let begun = begun_room c.args.task (pos 0) c.as_slice-messages.result.now c.self.inside.registers c.self.invariant.room in
+        let taken = subst (λ (g : RegistersSeen). HasRoom g) (sym c.take_inputs-inputs.ensures.emptied) (record { outs = begun.outs; rows = begun.rows }) in
+        subst (λ (g : RegistersSeen). HasRoom g) (sym c.begin.ensures) (record { outs = taken.outs; rows = taken.rows });
     }
