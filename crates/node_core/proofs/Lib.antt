@@ -4,3 +4,4 @@ pub mod MessageLemmas
 pub mod InputLemmas
 pub mod RowsComputed
 pub mod SearchLemmas
+pub mod KeptLimits

@@ -6,3 +6,4 @@ pub mod Conditions
 pub mod Fits
 pub mod Rows
 pub mod Kinds
+pub mod Laws

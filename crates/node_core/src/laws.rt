@@ -1,8 +1,14 @@
 //! What the states of nodes have to do with the definitions of the runtime.
 
 ghost use Rattle.node_core.specs.Kinds.{MissesByTheRule};
+ghost use Rattle.node_core.specs.Laws.{KeptByRules};
 
 /// A Synced node that misses a beacon is in the state that the runtime's rule of a missed beacon gives.
 pub fn misses_by_the_rule()
     ensures { MissesByTheRule }
+{}
+
+/// Each call keeps what holds of every node that runs, where the call's condition holds.
+pub fn rules_keep_limits()
+    ensures { KeptByRules }
 {}

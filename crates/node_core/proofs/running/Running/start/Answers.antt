@@ -25,6 +25,6 @@ invariant_of-self c =
           (subst (λ (g : RegistersSeen). InsFit (mode_of (the_view c.self.inside)).messages g.ins) (sym c.take_inputs-inputs.ensures.emptied)
           (taken_fit (mode_of (the_view c.self.inside)).messages c.args.task c.self.inside.registers.ins c.as_slice-messages.result.now c.self.invariant.ins));
       room = let begun = begun_room c.args.task (pos 0) c.as_slice-messages.result.now c.self.inside.registers c.self.invariant.room in
-        let taken = subst (λ (g : RegistersSeen). HasRoom g) (sym c.take_inputs-inputs.ensures.emptied) (record { outs = begun.outs; rows = begun.rows }) in
-        subst (λ (g : RegistersSeen). HasRoom g) (sym c.begin.ensures) (record { outs = taken.outs; rows = taken.rows });
+          let taken = subst (λ (g : RegistersSeen). HasRoom g) (sym c.take_inputs-inputs.ensures.emptied) (record { outs = begun.outs; rows = begun.rows }) in
+          subst (λ (g : RegistersSeen). HasRoom g) (sym c.begin.ensures) (record { outs = taken.outs; rows = taken.rows });
     }
