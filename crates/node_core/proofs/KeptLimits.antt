@@ -1,5 +1,5 @@
 -- Each rule keeps what holds of every node
-use Rattle.std.proofs.Common.{◌≡◌, ℕ, ◌<◌, Bool, true, false, cond, not, ◌&&◌, nat_eq, List, length, Option, Some, None, ℤ, pos, ◌+ℤ◌, ◌-ℤ◌, ◌≤ℤ◌, ◌<ℤ◌, refl, ap, sym, ◌∙◌, subst, arith}
+use Rattle.std.proofs.Common.{◌≡◌, ℕ, Bool, true, false, cond, nat_eq, List, Option, Some, None, ℤ, pos, ◌+ℤ◌, ◌-ℤ◌, ◌≤ℤ◌, ◌<ℤ◌, refl, sym, subst, arith}
 use Rattle.std.specs.Prelude.{int_lt}
 use Rattle.std.proofs.lemmas.Bool.{eqb-true}
 use Rattle.std.proofs.lemmas.Int.{ints}
@@ -8,14 +8,14 @@ use Rattle.task_body.specs.Tally.{answer}
 use Rattle.node_tables.specs.declared.tables.NodeTable.{NodeTable}
 use Rattle.node_tables.specs.declared.tables.OwnMessage.{OwnMessage}
 use Rattle.node_core.specs.declared.packet.Packet.{Packet}
-use Rattle.node_core.specs.Lookup.{mode_at, round_at, mode_of_round, own_slot, is_taken}
+use Rattle.node_core.specs.Lookup.{mode_at, mode_of_round, is_taken}
 use Rattle.node_core.specs.Registers.{RegistersSeen, no_registers, filled, begun, ended_with}
-use Rattle.node_core.specs.Running.{RunningNode, mode_of, round_of}
-use Rattle.node_core.specs.Rules.{at_round, round_in, first_heard, heard, coasted, passed, turned, message_in, message_of_slot, registers_with, received, starts, inputs_now, started, end_answer, ended}
-use Rattle.node_core.specs.Conditions.{MayHear, MayMiss, MayPass, MayReceive, MayStart}
+use Rattle.node_core.specs.Running.{RunningNode, mode_of}
+use Rattle.node_core.specs.Rules.{at_round, round_in, first_heard, heard, coasted, passed, turned, message_of_slot, registers_with, starts, inputs_now, end_answer}
+use Rattle.node_core.specs.Conditions.{MayHear, MayMiss, MayPass, MayReceive}
 use Rattle.node_core.specs.Fits.{TableFits, SpotFits, InsFit, HasRoom, NodeFits}
 use Rattle.node_core.specs.Laws.{KeptByRules}
-use Rattle.node_core.proofs.NodeLemmas.{spot_fits, round_in_mode, no_ins_fit, emptied_fit, next_round_known, PassBounds, pass_bounds}
+use Rattle.node_core.proofs.NodeLemmas.{spot_fits, round_in_mode, no_ins_fit, next_round_known, pass_bounds}
 use Rattle.node_core.proofs.RegisterLemmas.{emptied_room, filled_room, begun_room, ended_room}
 use Rattle.node_core.proofs.MessageLemmas.{received_fits}
 use Rattle.node_core.proofs.InputLemmas.{taken_fit}

@@ -5,3 +5,4 @@ pub mod InputLemmas
 pub mod RowsComputed
 pub mod SearchLemmas
 pub mod KeptLimits
+pub mod RegisterRules

@@ -73,7 +73,8 @@ full_row_fits : (n k : ℕ) (values : List ℤ) → length values ≡ n → RowF
 full_row_fits n k values e i d l =
     subst (λ (r : Option (List ℤ)). IfSome r (λ xs. length xs ≡ n)) (sym (get_or-replicate k i (Some values) d (omega (arith, l, length-replicate {A = Option (List ℤ)} k (Some values))))) e
 
-same_message : (messages : List OwnMessage) (m x : OwnMessage) → own_message messages m.number ≡ Some m → own_message messages x.number ≡ Some x → m.number ≡ x.number → m ≡ x
+-- messages that are found by one number are one
+pub same_message : (messages : List OwnMessage) (m x : OwnMessage) → own_message messages m.number ≡ Some m → own_message messages x.number ≡ Some x → m.number ≡ x.number → m ≡ x
 same_message messages m x e f same = same_Some m x (sym e ∙ (ap (λ (n : ℕ). own_message messages n) same ∙ f))
 
 -- registers fit after a packet of a message with one value per producer
@@ -92,7 +93,7 @@ values_fit n (Some s) packet m same values e =
     subst (λ (r : Option OwnMessage). IfSome r (λ y. length packet.values ≡ length y.producers)) e' values
 
 -- the message of a slot is the one that its number finds
-slot_message_found : (mode : ModeTable) (o : Option OwnSlot) (m : OwnMessage) → message_in mode o ≡ Some m → own_message mode.messages m.number ≡ Some m
+pub slot_message_found : (mode : ModeTable) (o : Option OwnSlot) (m : OwnMessage) → message_in mode o ≡ Some m → own_message mode.messages m.number ≡ Some m
 slot_message_found mode None m e = absurd cc
 slot_message_found mode (Some s) m e = ap (λ (k : ℕ). own_message mode.messages k) (number_found mode.messages s.message m e) ∙ e
 

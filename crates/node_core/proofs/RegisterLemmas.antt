@@ -52,7 +52,8 @@ emptied_room g e = record {
 pub filled_room : (m : OwnMessage) (values : List ℤ) (g : RegistersSeen) → HasRoom g → HasRoom (filled m values g)
 filled_room m values g room = record { outs = room.outs; rows = length-set g.ins m.number (replicate (length m.consumers) (Some values)) ∙ room.rows }
 
-length-emptied_at : (ins : List InRow) (m : OwnMessage) (o : Option ℕ) → length (emptied_at ins m o) ≡ length ins
+-- taking registers keeps how many rows there are
+pub length-emptied_at : (ins : List InRow) (m : OwnMessage) (o : Option ℕ) → length (emptied_at ins m o) ≡ length ins
 length-emptied_at ins m None = refl
 length-emptied_at ins m (Some c) = length-set ins m.number (slice_set (row_of ins m.number) c None)
 

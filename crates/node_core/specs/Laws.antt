@@ -1,10 +1,13 @@
 -- Laws of the rules of nodes
-use Rattle.std.specs.Prelude.{ℕ, List, ℤ}
+use Rattle.std.specs.Prelude.{◌≡◌, ℕ, ◌<◌, Bool, true, cond, ◌&&◌, nat_eq, List, All, Some, None, is_some, ℤ}
 use Rattle.beacon_codec.specs.declared.packet.Beacon.{Beacon}
 use Rattle.node_tables.specs.declared.tables.NodeTable.{NodeTable}
+use Rattle.node_tables.specs.declared.tables.OwnMessage.{OwnMessage}
 use Rattle.node_core.specs.declared.packet.Packet.{Packet}
-use Rattle.node_core.specs.Running.{RunningNode}
-use Rattle.node_core.specs.Rules.{first_heard, heard, coasted, passed, received, started, ended}
+use Rattle.node_core.specs.Lookup.{consumer_place}
+use Rattle.node_core.specs.Registers.{out_of, register_of}
+use Rattle.node_core.specs.Running.{RunningNode, mode_of}
+use Rattle.node_core.specs.Rules.{first_heard, heard, coasted, passed, message_of_slot, takes, received, starts, started, end_answer, ended}
 use Rattle.node_core.specs.Conditions.{MayHear, MayMiss, MayPass, MayReceive, MayStart}
 use Rattle.node_core.specs.Fits.{TableFits, NodeFits}
 
@@ -17,3 +20,18 @@ pub record KeptByRules : Type 0 where
   pub receiving : (n : RunningNode) (slot : ℕ) (packet : Packet) → NodeFits n → MayReceive n slot packet → NodeFits (received n slot packet)
   pub starting : (n : RunningNode) (task : ℕ) (numbers : List ℤ) → NodeFits n → MayStart n task → NodeFits (started n task numbers)
   pub ending : (n : RunningNode) (task : ℕ) → NodeFits n → NodeFits (ended n task)
+
+-- the task consumes the message
+abbrev pub consumes : ℕ → OwnMessage → Bool
+consumes task m = is_some (consumer_place task m)
+
+-- What the calls do to each register. An end fills the out register of its task, and changes no other one.
+-- A packet fills the in registers of all tasks that consume its message, and changes no other one.
+-- A start empties the in registers of its task, and changes no other one
+pub record RegistersByRules : Type 0 where
+  pub ending : (n : RunningNode) (task : ℕ) (value : ℤ) → NodeFits n → task < 1024 → end_answer n task ≡ Some value
+      → (a : ℕ) → out_of (ended n task).registers a ≡ cond (nat_eq a task) (Some value) (out_of n.registers a)
+  pub receiving : (n : RunningNode) (slot : ℕ) (packet : Packet) (m : OwnMessage) → NodeFits n → message_of_slot n slot ≡ Some m → takes n slot ≡ true
+      → (b : ℕ) → All (λ x. register_of (received n slot packet).registers.ins b x ≡ cond (nat_eq x.number m.number && consumes b x) (Some packet.values) (register_of n.registers.ins b x)) (mode_of n).messages
+  pub starting : (n : RunningNode) (task : ℕ) (numbers : List ℤ) → NodeFits n → starts n task ≡ true
+      → (b : ℕ) → All (λ x. register_of (started n task numbers).registers.ins b x ≡ cond (nat_eq b task) None (register_of n.registers.ins b x)) (mode_of n).messages

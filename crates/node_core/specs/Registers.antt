@@ -50,7 +50,15 @@ filled m values g = record g { ins = slice_set g.ins m.number (replicate (length
 abbrev pub register_at : List InRow → OwnMessage → ℕ → Option (List ℤ)
 register_at ins m c = slice_index_or (row_of ins m.number) c None
 
--- the inputs from that register: one per producer, absent where the register is empty
+-- the in register of a task for a message, where it consumes the message
+abbrev pub register_in : List InRow → OwnMessage → Option ℕ → Option (List ℤ)
+register_in ins m None = None
+register_in ins m (Some c) = register_at ins m c
+
+abbrev pub register_of : List InRow → ℕ → OwnMessage → Option (List ℤ)
+register_of ins task m = register_in ins m (consumer_place task m)
+
+-- the inputs from the register at a place: one per producer, absent where the register is empty
 abbrev pub inputs_at : List InRow → OwnMessage → Option ℕ → List (Option ℤ)
 inputs_at ins m None = []
 inputs_at ins m (Some c) = given (length m.producers) (register_at ins m c)

@@ -1,7 +1,7 @@
 //! What the states of nodes have to do with the definitions of the runtime.
 
 ghost use Rattle.node_core.specs.Kinds.{MissesByTheRule};
-ghost use Rattle.node_core.specs.Laws.{KeptByRules};
+ghost use Rattle.node_core.specs.Laws.{KeptByRules, RegistersByRules};
 
 /// A Synced node that misses a beacon is in the state that the runtime's rule of a missed beacon gives.
 pub fn misses_by_the_rule()
@@ -11,4 +11,9 @@ pub fn misses_by_the_rule()
 /// Each call keeps what holds of every node that runs, where the call's condition holds.
 pub fn rules_keep_limits()
     ensures { KeptByRules }
+{}
+
+/// What an end, a packet and a start do to each register, and that they leave all others.
+pub fn registers_by_rules()
+    ensures { RegistersByRules }
 {}
