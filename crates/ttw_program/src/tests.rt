@@ -237,3 +237,116 @@ fn second_mode_exceeds_the_budget(rt: HostRuntime) -> Result<(), Fail> {
     assert!(rt; plans(rt.alloc(), file.as_str(), "13", (Status::Budget, exceeded))?);
     Ok(())
 }
+
+/// The status and the text of `check` over a mode file and a plan, where the numbered reads fail.
+fn checked(alloc: Global, file: &str, plan: &[u8], reads: &[u64]) -> Result<(Status, Vec<u8>), Fail> {
+    let mut list = Vec::new(alloc);
+    list.push((
+        "loop.toml".to_string(alloc)?,
+        file.as_bytes().to_vec(alloc)?,
+    ))?;
+    list.push(("loop.ttw".to_string(alloc)?, plan.to_vec(alloc)?))?;
+    let mut files = MemFiles::make(list, reads.to_vec(alloc)?);
+    let mut out = MemSink::make(alloc, 4096, 4096, Vec::new(alloc))?;
+    let words = ["check", "loop.toml", "loop.ttw"];
+    let status = run(alloc, &words, &mut files, &mut out);
+    Ok((status, out.bytes().to_vec(alloc)?))
+}
+
+/// Whether `check` of the plan ends with this status and this text.
+fn checks(alloc: Global, file: &str, plan: &str, wanted: (Status, &str)) -> Result<bool, Fail> {
+    let (status, text) = checked(alloc, file, plan.as_bytes(), &[])?;
+    Ok(status == wanted.0 && text.as_slice() == wanted.1.as_bytes())
+}
+
+/// A plan of the control loop with 20 lines.
+const LOOP_PLAN: &str =
+    "ttw 1\nmode run\nrefute 1\nbranch\ncycle 17 2 6\nbranch\ncycle 19 4 11\ncycle 19 18 9 11\ncycle 20 14 16 3\ncycle 18 7 3\nschedule 2\nstart 0 23\ntask sense 21\ntask ctrl 43\ntask act 120\nmessage m1 23 43\nmessage m2 48 120\ntable 1 m2\ntable 2 m1\nend\n";
+
+#[test]
+fn check_accepts_and_bad_leaf(rt: HostRuntime) -> Result<(), Fail> {
+    let accepted = (Status::Done, "accepted\nmode run rounds 2\n");
+    assert!(rt; checks(rt.alloc(), LOOP, LOOP_PLAN, accepted)?);
+    let plan = LOOP_PLAN.replace(rt.alloc(), "cycle 17 2 6", "cycle 17 2 7")?;
+    let refused = (Status::Plan, "plan: bad leaf line 5\n");
+    assert!(rt; checks(rt.alloc(), LOOP, plan.as_str(), refused)?);
+    Ok(())
+}
+
+#[test]
+fn cut_plans(rt: HostRuntime) -> Result<(), Fail> {
+    let alloc = rt.alloc();
+    let behind = "cycle 18 7 3\nschedule 2\nstart 0 23\ntask sense 21\ntask ctrl 43\ntask act 120\nmessage m1 23 43\nmessage m2 48 120\ntable 1 m2\ntable 2 m1\nend\n";
+    let cut = LOOP_PLAN.replace(alloc, behind, "")?;
+    let due = (Status::Plan, "plan: grammar line 10\n");
+    assert!(rt; checks(alloc, LOOP, cut.as_str(), due)?);
+    let gap = LOOP_PLAN.replace(alloc, "cycle 18 7 3\n", "")?;
+    let unfinished = (Status::Plan, "plan: unfinished run\n");
+    assert!(rt; checks(alloc, LOOP, gap.as_str(), unfinished)?);
+    let early = LOOP_PLAN.replace(alloc, "start 0 23", "start 0 22")?;
+    let broken = (Status::Plan, "plan: schedule run S7\n");
+    assert!(rt; checks(alloc, LOOP, early.as_str(), broken)?);
+    Ok(())
+}
+
+#[test]
+fn refused_plans_name_lines_and_modes(rt: HostRuntime) -> Result<(), Fail> {
+    let alloc = rt.alloc();
+    let names = LOOP_PLAN.replace(alloc, "task sense", "task act")?;
+    let refused = (Status::Plan, "plan: names line 13\n");
+    assert!(rt; checks(alloc, LOOP, names.as_str(), refused)?);
+    let extra = LOOP_PLAN.replace(alloc, "cycle 18 7 3\n", "cycle 18 7 3\nbranch\n")?;
+    let refused = (Status::Plan, "plan: extra line 11\n");
+    assert!(rt; checks(alloc, LOOP, extra.as_str(), refused)?);
+    let missing = LOOP_PLAN.replace(alloc, "schedule 2", "schedule 3")?;
+    let refused = (Status::Plan, "plan: missing run 2\n");
+    assert!(rt; checks(alloc, LOOP, missing.as_str(), refused)?);
+    Ok(())
+}
+
+#[test]
+fn checks_of_modes_without_a_schedule(rt: HostRuntime) -> Result<(), Fail> {
+    let file = three_messages(rt.alloc())?;
+    let plan = "ttw 1\nmode run\nrefute 1\nshort\nrefute 2\nshort\nnone\nend\n";
+    let accepted = (Status::Done, "accepted\nmode run none\n");
+    assert!(rt; checks(rt.alloc(), file.as_str(), plan, accepted)?);
+    Ok(())
+}
+
+#[test]
+fn deadline_of_hyperperiod(rt: HostRuntime) -> Result<(), Fail> {
+    let plan = "ttw 1\nmode run\nrefute 1\ncycle 1\nrefute 2\ncycle 1 3\nschedule 3\nstart 0 20 60\ntask blink 0\ntable 1\ntable 2\ntable 3\nend\n";
+    let accepted = (Status::Done, "accepted\nmode run rounds 3\n");
+    assert!(rt; checks(rt.alloc(), BLINK, plan, accepted)?);
+    let later = BLINK.replace(rt.alloc(), "deadline = 100", "deadline = 101")?;
+    let refused = (Status::ModeFile, "modes: deadline lamp\n");
+    assert!(rt; checks(rt.alloc(), later.as_str(), plan, refused)?);
+    Ok(())
+}
+
+/// The mode file is read in two calls, and so is the plan.
+#[test]
+fn failing_reads_of_a_check(rt: HostRuntime) -> Result<(), Fail> {
+    for fail in 1..5 {
+        let (status, text) = checked(rt.alloc(), LOOP, LOOP_PLAN.as_bytes(), &[fail])?;
+        assert!(rt; status == Status::ReadFault);
+        assert_eq!(rt; text.as_slice(), b"read fault\n".as_slice());
+    }
+    let (status, _text) = checked(rt.alloc(), LOOP, LOOP_PLAN.as_bytes(), &[5])?;
+    assert!(rt; status == Status::Done);
+    Ok(())
+}
+
+#[test]
+fn longest_plan(rt: HostRuntime) -> Result<(), Fail> {
+    let mut plan = Vec::new(rt.alloc());
+    plan.resize(16_777_216, b' ')?;
+    let (status, text) = checked(rt.alloc(), LOOP, plan.as_slice(), &[])?;
+    assert!(rt; status == Status::Plan);
+    assert_eq!(rt; text.as_slice(), b"plan: grammar line 1\n".as_slice());
+    plan.push(b' ')?;
+    let (status, text) = checked(rt.alloc(), LOOP, plan.as_slice(), &[])?;
+    assert!(rt; status == Status::Plan);
+    assert_eq!(rt; text.as_slice(), b"plan: too long\n".as_slice());
+    Ok(())
+}
