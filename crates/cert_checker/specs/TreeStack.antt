@@ -9,6 +9,7 @@ use Rattle.proof_tree.specs.TreeLines.{Items}
 use Rattle.proof_tree.specs.Reading.{Place, Read, ◌>>=◌, next_item, each, tree_at, leaf_end, BadLeaf}
 use Rattle.cert_checker.specs.declared.walk.Walk.{Walk}
 
+-- the choice at this place
 abbrev pub at_ : List ℤ → ℕ → ℤ
 at_ xs k = slice_index_or xs k (pos 0)
 
