@@ -8,7 +8,7 @@ use Rattle.node_use.specs.Between.{IsTimed}
 use Rattle.round_service.specs.Serving.{IsServable, most_choice}
 use Rattle.sched_model.specs.Numbers.{span}
 use Rattle.sched_model.specs.PlainMode.{PlainMode, hyper, task_at, message_at, instance_count}
-use Rattle.sched_model.specs.ConstraintProblem.{Decision, serve, order, decisions, serves, place, places, alternatives_of}
+use Rattle.sched_model.specs.ConstraintProblem.{Decision, serve, order, decisions, place, places, alternatives_of}
 use Rattle.sched_model.specs.OpenPrefix.{Chosen}
 use Rattle.sched_model.specs.ModeLimits.{IsLimited}
 use Rattle.sched_model.specs.ValidMode.{IsValid}

@@ -1,13 +1,13 @@
 -- The tasks that reach another one, as sets
-use Rattle.std.proofs.Common.{◌≡◌, ℕ, zero, suc, ◌+◌, ◌*◌, ◌%◌, ◌^◌, ◌<◌, ◌≤◌, Bool, true, false, cond, not, eqb, ◌&&◌, ◌||◌, List, [], ◌∷◌, ◌++◌, length, map, refl, sym, ◌∙◌, ap, subst, arith, ⊎_elim, bit_and, bit_or}
-use Rattle.std.specs.List.{fold, list_any}
+use Rattle.std.proofs.Common.{◌≡◌, ℕ, zero, suc, ◌+◌, ◌*◌, ◌%◌, ◌^◌, ◌<◌, ◌≤◌, Bool, true, false, cond, not, eqb, ◌&&◌, ◌||◌, List, [], ◌∷◌, length, map, refl, sym, ◌∙◌, ap, arith, ⊎_elim, bit_and, bit_or}
+use Rattle.std.specs.List.{list_any}
 use Rattle.std.proofs.lemmas.Bool.{cases_lt, eq-eqb, ne_eqb}
 use Rattle.std.proofs.lemmas.List.Folds.{list_any-append}
 use Rattle.app_graph.specs.Masks.{mask_of}
 use Rattle.app_graph.proofs.Marks.{and_masks, or_masks, mask_of-zero, mask_same, mask_of-yes, mask_of-no}
 use Rattle.sched_model.specs.Numbers.{below, has}
 use Rattle.sched_model.specs.PlainMode.{PlainMode, PlainMessage}
-use Rattle.sched_model.specs.TaskGraph.{edge, reaches_in, reaches}
+use Rattle.sched_model.specs.TaskGraph.{reaches_in, reaches}
 use Rattle.sched_model.proofs.Lists.{length-below}
 use Rattle.constraint_set.specs.declared.graph.Link.{Link}
 use Rattle.constraint_set.specs.Graph.{set_of, link_of, back_from}

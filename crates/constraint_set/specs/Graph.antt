@@ -1,5 +1,5 @@
 -- Sets of tasks as numbers, one bit for each place
-use Rattle.std.specs.Prelude.{ℕ, List, [], ◌∷◌, length, if◌then◌else◌, nat_eq, fold, bit_and, bit_or}
+use Rattle.std.specs.Prelude.{ℕ, List, length, if◌then◌else◌, nat_eq, fold, bit_and, bit_or}
 use Rattle.app_graph.specs.Masks.{mask_of}
 use Rattle.sched_model.specs.Numbers.{below, has}
 use Rattle.sched_model.specs.PlainMode.{PlainMode, PlainMessage}

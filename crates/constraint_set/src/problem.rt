@@ -157,14 +157,7 @@ impl Problem {
         ensures { IfOk result (λ s. s ≡ schedule_of self.now.mode self.now.rounds choices.now (listed values.now)) }
     {
         let alloc = *self.base.allocator();
-        make_schedule(
-            alloc,
-            &self.mode,
-            self.rounds,
-            self.ticks,
-            choices,
-            values,
-        )
+        make_schedule(alloc, &self.mode, self.rounds, self.ticks, choices, values)
     }
 
     /// The round, from 1, that this choice for the decision at the place `at` names. None exactly where it names none of

@@ -1,5 +1,5 @@
 -- Laws of plans
-use Rattle.std.specs.Prelude.{ℕ, ◌+◌, Option, List, length}
+use Rattle.std.specs.Prelude.{◌+◌, Option, List, length}
 use Rattle.sched_model.specs.declared.schedule.Schedule.{Schedule}
 use Rattle.sched_model.specs.PlainMode.{PlainMode}
 use Rattle.sched_model.specs.ValidMode.{IsValid}

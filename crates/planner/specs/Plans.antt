@@ -1,5 +1,5 @@
 -- What is planned for a mode
-use Rattle.std.specs.Prelude.{◌≡◌, ℕ, ◌+◌, ◌<◌, ◌≤◌, Option, Some, None, List, length}
+use Rattle.std.specs.Prelude.{ℕ, ◌+◌, ◌<◌, ◌≤◌, Option, Some, None, List, length}
 use Rattle.sched_model.specs.declared.schedule.Schedule.{Schedule}
 use Rattle.sched_model.specs.PlainMode.{PlainMode}
 use Rattle.sched_model.specs.RightSchedule.{IsSchedule, Fewest, NoSchedule}

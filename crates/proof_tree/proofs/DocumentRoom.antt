@@ -1,19 +1,16 @@
 -- The documents that the search makes are within the limit: a line for each visited prefix, and few lines more.
-use Rattle.std.proofs.Common.{◌≡◌, ℕ, zero, suc, ◌+◌, ◌*◌, ◌≤◌, min, List, [], ◌∷◌, ◌++◌, length, length-append, map, Option, Some, None, refl, sym, ◌∙◌, subst, arith, inl, inr}
+use Rattle.std.proofs.Common.{◌≡◌, ℕ, zero, suc, ◌+◌, ◌*◌, ◌≤◌, List, [], ◌∷◌, ◌++◌, length, length-append, map, Option, Some, None, refl, arith, inl, inr}
 use Rattle.std.specs.List.{AllByRecursion, AllZip, flat_map, zip, enumerate_from, join_with_byte}
 use Rattle.std.proofs.lemmas.List.{length-map}
 use Rattle.std.proofs.lemmas.List.FromFn.{length-enumerate_from}
 use Rattle.std.proofs.lemmas.List.Elements.{recursion_from_All, Contains-get_or}
 use Rattle.std.proofs.lemmas.Slice.Zip.{length-zip}
-use Rattle.app_graph.specs.Validation.{KeepsRules}
 use Rattle.app_graph.specs.declared.mode_set.ModeSet.{ModeSet}
 use Rattle.app_graph.specs.declared.mode_set.Mode.{Mode}
 use Rattle.sched_model.specs.PlainMode.{PlainMode, most_rounds, plain_mode}
 use Rattle.sched_model.specs.ModeLimits.{IsLimited}
 use Rattle.sched_model.specs.ValidMode.{IsValid}
-use Rattle.sched_model.specs.SearchCost.{Visited, CostFrom, Cost}
-use Rattle.sched_model.specs.RefutationTree.{OwnTree}
-use Rattle.sched_model.specs.RightSchedule.{IsSchedule}
+use Rattle.sched_model.specs.SearchCost.{CostFrom}
 use Rattle.sched_model.specs.declared.schedule.Schedule.{Schedule}
 use Rattle.sched_model.specs.Laws.{OwnTreesCountVisits}
 use Rattle.sched_model.proofs.Costs.{visited_one}
@@ -23,11 +20,11 @@ use Rattle.proof_tree.specs.declared.tree.Tree.{Tree}
 use Rattle.proof_tree.specs.declared.tree.ModePart.{ModePart}
 use Rattle.proof_tree.specs.Items.{Item, first_word, other_words, line_of, text_of, End}
 use Rattle.proof_tree.specs.Names.{tasks_in, messages_in}
-use Rattle.proof_tree.specs.PlanText.{tree_items, stored_item, task_item, message_item, table_item, refuted_items, answer_items, part_items, plan_items, plan_text}
-use Rattle.proof_tree.specs.OwnDocument.{OwnTreesFrom, OwnPart, OwnDoc}
+use Rattle.proof_tree.specs.PlanText.{stored_item, task_item, message_item, table_item, refuted_items, answer_items, part_items, plan_items}
+use Rattle.proof_tree.specs.OwnDocument.{OwnTreesFrom, OwnPart}
 use Rattle.proof_tree.specs.DocumentLaws.{HasRoom, IsRightPart, RightAnswer, WithinBudget, OwnDocumentsHaveRoom}
 use Rattle.proof_tree.proofs.FewestRounds.{few}
-use Rattle.proof_tree.proofs.ModeCounts.{few_modes}
+use Rattle.sched_model.proofs.TaskNumbers.{few_modes}
 use Rattle.proof_tree.proofs.OwnParts.{own_parts_make_documents}
 
 -- lines with room have at most 4,097 bytes each

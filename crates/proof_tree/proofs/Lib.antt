@@ -18,5 +18,4 @@ pub mod LineRoom
 pub mod GoodNames
 pub mod ScheduleRoom
 pub mod OwnParts
-pub mod ModeCounts
 pub mod DocumentRoom

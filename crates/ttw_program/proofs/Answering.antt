@@ -1,8 +1,7 @@
 -- What is due of a mode file, from what was read of it
-use Rattle.std.proofs.Common.{◌≡◌, ◌≢◌, ℕ, ◌+◌, ◌<◌, ◌≤◌, List, [], ◌∷◌, ◌++◌, length, get_or, refl, sym, ◌∙◌, ap, subst, arith, ◌⊎◌, inl, inr, ⊎_elim, Some, None, true, false, leb}
+use Rattle.std.proofs.Common.{◌≡◌, ℕ, ◌<◌, List, [], ◌∷◌, length, refl, sym, ap, subst, arith, inl, inr, Some}
 use Rattle.std.specs.Prelude.{option_map, Bool, Vec, Err}
-use Rattle.std.proofs.lemmas.Bool.{cases_lt, lt-leb}
-use Rattle.std.proofs.lemmas.List.{get_or_append_left, get_or_at, length_push}
+use Rattle.std.proofs.lemmas.Bool.{lt-leb}
 use Rattle.ttw_io.specs.Outside.{Told, untold, missing, file, IsWhole, IsLonger, OfFile}
 use Rattle.ttw_io.specs.Reading.{EndsReading}
 use Rattle.ttw_io.specs.declared.reading.ReadEnd.{ReadEnd}

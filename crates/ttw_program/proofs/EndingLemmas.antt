@@ -1,13 +1,12 @@
 -- How a run ends, from what writing its text ended with
-use Rattle.std.proofs.Common.{◌≡◌, ℕ, List, Option, refl, sym, ◌∙◌, subst, ◌⊎◌, inl, inr, ⊎_elim, Bool, true, false, cond}
-use Rattle.std.proofs.lemmas.Bool.{cases_Bool}
+use Rattle.std.proofs.Common.{◌≡◌, ℕ, List, Option, refl, sym, subst, inl, inr, Bool, true, false}
 use Rattle.std.specs.Prelude.{if◌then◌else◌}
 use Rattle.std.specs.Io.KnownBytes.{append_known}
-use Rattle.ttw_io.specs.Outside.{Rose, Told, untold, missing, file, OfFile, AddsFront}
+use Rattle.ttw_io.specs.Outside.{Rose, Told, untold, missing, file, OfFile}
 use Rattle.ttw_program.specs.declared.status.Status.{Status}
-use Rattle.ttw_program.specs.declared.status.Status.TheVariants.{Done, NoSchedule, Usage, ModeFile, Plan, Budget, ReadFault, WriteFault}
+use Rattle.ttw_program.specs.declared.status.Status.TheVariants.{Done, NoSchedule, Usage, ModeFile, Plan, Budget, ReadFault}
 use Rattle.ttw_program.specs.FaultLines.{read_fault_line}
-use Rattle.ttw_program.specs.Endings.{SinkCounts, Counts, FlushedOnce, Ends, Finishes, AddsDue, ReadFaultDue}
+use Rattle.ttw_program.specs.Endings.{Counts, FlushedOnce, Ends, Finishes}
 use Rattle.ttw_program.specs.Commands.{Command, plan, check, none}
 use Rattle.ttw_program.specs.Plans.{plan_status}
 use Rattle.ttw_program.specs.Checks.{CheckDue}

@@ -1,12 +1,11 @@
 -- The plans of the modes, one after another
-use Rattle.std.proofs.Common.{◌≡◌, ℕ, suc, ◌+◌, ◌<◌, ◌≤◌, List, [], ◌∷◌, ◌++◌, length, get_or, take, refl, sym, ◌∙◌, ap, subst, arith, inl, inr}
+use Rattle.std.proofs.Common.{◌≡◌, ℕ, ◌+◌, ◌<◌, ◌≤◌, List, [], ◌∷◌, ◌++◌, length, take, sym, subst, arith}
 use Rattle.std.specs.List.{AllZip, AllByRecursion}
 use Rattle.std.proofs.lemmas.List.{take_more, take_all}
 use Rattle.app_graph.specs.declared.mode_set.ModeSet.{ModeSet}
 use Rattle.app_graph.specs.declared.mode_set.Mode.{Mode}
 use Rattle.app_graph.specs.Validation.{KeepsRules}
-use Rattle.sched_model.specs.PlainMode.{plain_at, mode_at, plain_mode}
-use Rattle.sched_model.specs.SearchCost.{SpentAt}
+use Rattle.sched_model.specs.PlainMode.{plain_at, mode_at}
 use Rattle.proof_tree.specs.declared.tree.ModePart.{ModePart}
 use Rattle.proof_tree.specs.DocumentLaws.{OwnDocumentsHaveRoom, WithinBudget}
 use Rattle.proof_tree.specs.OwnDocument.{OwnPart, OwnDoc}

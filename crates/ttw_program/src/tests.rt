@@ -42,7 +42,7 @@ fn without_cycles(alloc: Global, text: &[u8]) -> Result<Vec<u8>, Fail> {
         }
         kept.push(b'\n')?;
     }
-    kept.truncate(kept.len() - 1);
+    let _feed_after_the_last = kept.pop();
     Ok(kept)
 }
 
@@ -239,7 +239,12 @@ fn second_mode_exceeds_the_budget(rt: HostRuntime) -> Result<(), Fail> {
 }
 
 /// The status and the text of `check` over a mode file and a plan, where the numbered reads fail.
-fn checked(alloc: Global, file: &str, plan: &[u8], reads: &[u64]) -> Result<(Status, Vec<u8>), Fail> {
+fn checked(
+    alloc: Global,
+    file: &str,
+    plan: &[u8],
+    reads: &[u64],
+) -> Result<(Status, Vec<u8>), Fail> {
     let mut list = Vec::new(alloc);
     list.push((
         "loop.toml".to_string(alloc)?,
@@ -276,7 +281,8 @@ fn check_accepts_and_bad_leaf(rt: HostRuntime) -> Result<(), Fail> {
 #[test]
 fn cut_plans(rt: HostRuntime) -> Result<(), Fail> {
     let alloc = rt.alloc();
-    let behind = "cycle 18 7 3\nschedule 2\nstart 0 23\ntask sense 21\ntask ctrl 43\ntask act 120\nmessage m1 23 43\nmessage m2 48 120\ntable 1 m2\ntable 2 m1\nend\n";
+    let behind =
+        "cycle 18 7 3\nschedule 2\nstart 0 23\ntask sense 21\ntask ctrl 43\ntask act 120\nmessage m1 23 43\nmessage m2 48 120\ntable 1 m2\ntable 2 m1\nend\n";
     let cut = LOOP_PLAN.replace(alloc, behind, "")?;
     let due = (Status::Plan, "plan: grammar line 10\n");
     assert!(rt; checks(alloc, LOOP, cut.as_str(), due)?);
@@ -315,7 +321,8 @@ fn checks_of_modes_without_a_schedule(rt: HostRuntime) -> Result<(), Fail> {
 
 #[test]
 fn deadline_of_hyperperiod(rt: HostRuntime) -> Result<(), Fail> {
-    let plan = "ttw 1\nmode run\nrefute 1\ncycle 1\nrefute 2\ncycle 1 3\nschedule 3\nstart 0 20 60\ntask blink 0\ntable 1\ntable 2\ntable 3\nend\n";
+    let plan =
+        "ttw 1\nmode run\nrefute 1\ncycle 1\nrefute 2\ncycle 1 3\nschedule 3\nstart 0 20 60\ntask blink 0\ntable 1\ntable 2\ntable 3\nend\n";
     let accepted = (Status::Done, "accepted\nmode run rounds 3\n");
     assert!(rt; checks(rt.alloc(), BLINK, plan, accepted)?);
     let later = BLINK.replace(rt.alloc(), "deadline = 100", "deadline = 101")?;

@@ -1,6 +1,5 @@
 use Rattle.std.proofs.Common.{◌≡◌, ◌++◌, take}
 use Rattle.std.specs.List.{flat_map}
-use Rattle.sched_model.specs.Numbers.{below}
 use Rattle.sched_model.specs.ConstraintProblem.{of_consumer}
 use Rattle.constraint_set.proofs.base.add_consumers.Given as goal
 

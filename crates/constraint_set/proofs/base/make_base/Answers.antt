@@ -1,4 +1,3 @@
-use Rattle.std.proofs.Common.{List, length, map, ◌∙◌, ap}
 use Rattle.constraint_set.proofs.BaseLists.{five_parts}
 use Rattle.constraint_set.proofs.base.make_base.Goals as goal
 

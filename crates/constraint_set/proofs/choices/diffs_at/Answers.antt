@@ -1,4 +1,4 @@
-use Rattle.std.proofs.Common.{◌*◌, length, get_or, Contains, sym, ◌∙◌, ap, subst, arith, rules, pos, ◌≤ℤ◌, w64, FitsSigned}
+use Rattle.std.proofs.Common.{get_or, Contains, sym, ◌∙◌, ap, subst, arith, rules, pos, ◌≤ℤ◌, w64, FitsSigned}
 use Rattle.std.proofs.lemmas.Int.{to_z-of_z}
 use Rattle.round_service.specs.Serving.{most_choice}
 use Rattle.sched_model.specs.PlainMode.{task_at}

@@ -1,11 +1,6 @@
-use Rattle.std.proofs.Common.{sym, ◌∙◌, ap, subst, rules, pos, ℤ, List, Contains, w64, FitsSigned}
-use Rattle.std.proofs.lemmas.Int.{to_z-of_z}
-use Rattle.tick_num.specs.declared.differences.Diff.{Diff}
+use Rattle.std.proofs.Common.{sym, subst}
 use Rattle.node_use.specs.declared.places.TaskTimes.{TaskTimes}
-use Rattle.node_use.specs.Between.{IsTimed, plain, between}
-use Rattle.sched_model.specs.Numbers.{gcd}
-use Rattle.sched_model.specs.ConstraintProblem.{places, task_var}
-use Rattle.constraint_set.specs.Numbers.{times_at}
+use Rattle.node_use.specs.Between.{IsTimed}
 use Rattle.constraint_set.proofs.Bounded.{timed}
 use Rattle.constraint_set.proofs.choices.pair_diffs.Goals as goal
 

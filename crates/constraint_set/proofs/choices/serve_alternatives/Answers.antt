@@ -1,5 +1,5 @@
-use Rattle.std.proofs.Common.{[], ◌<◌, ◌∙◌, arith}
-use Rattle.constraint_set.proofs.Bounded.{at_serve, before_later, first_are, later_are}
+use Rattle.std.proofs.Common.{◌<◌, arith}
+use Rattle.constraint_set.proofs.Bounded.{at_serve, before_later}
 use Rattle.std.proofs.Common.{length}
 use Rattle.constraint_set.proofs.choices.serve_alternatives.Goals as goal
 

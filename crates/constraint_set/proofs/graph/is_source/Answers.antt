@@ -1,4 +1,4 @@
-use Rattle.std.proofs.Common.{ℕ, sym, ◌∙◌, ap, length, not, eqb, bit_and, [], ◌∷◌}
+use Rattle.std.proofs.Common.{ℕ, ◌∙◌, ap, not, eqb, bit_and, [], ◌∷◌}
 use Rattle.constraint_set.specs.Graph.{set_of}
 use Rattle.constraint_set.proofs.Sources.{one_bit}
 use Rattle.constraint_set.proofs.graph.is_source.Goals as goal

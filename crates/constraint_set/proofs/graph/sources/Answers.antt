@@ -1,4 +1,4 @@
-use Rattle.std.proofs.Common.{ℕ, sym, ◌∙◌, ap, length, [], ◌∷◌}
+use Rattle.std.proofs.Common.{ℕ, ◌∙◌, ap, [], ◌∷◌}
 use Rattle.constraint_set.specs.Graph.{set_of}
 use Rattle.constraint_set.proofs.Sources.{no_edge, edge_more}
 use Rattle.constraint_set.proofs.graph.sources.Goals as goal

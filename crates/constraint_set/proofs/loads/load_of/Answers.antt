@@ -1,4 +1,4 @@
-use Rattle.std.proofs.Common.{◌≡◌, ◌+◌, ◌<◌, ℤ, to_z, of_z, sym, ◌∙◌, ap, arith, rules, length, get_or, pos, w64, FitsSigned, drop}
+use Rattle.std.proofs.Common.{◌≡◌, ◌<◌, ℤ, to_z, of_z, sym, ◌∙◌, ap, arith, rules, length, get_or, pos, w64, FitsSigned}
 use Rattle.std.proofs.lemmas.Int.{to_z-of_z}
 use Rattle.sched_model.specs.ConstraintProblem.{Decision, order}
 use Rattle.constraint_set.specs.Decided.{names_round}

@@ -1,4 +1,4 @@
-use Rattle.std.proofs.Common.{◌∙◌, ap, arith, refl}
+use Rattle.std.proofs.Common.{◌∙◌, arith}
 use Rattle.tick_num.specs.Differences.{listed}
 use Rattle.constraint_set.proofs.TableLemmas.{schedule_made}
 use Rattle.constraint_set.proofs.schedule.make_schedule.Goals as goal

@@ -1,6 +1,6 @@
 use Rattle.std.proofs.Common.{◌≡◌, ℕ, zero, suc, ◌+◌, ◌-◌, ◌≤◌, List, [], ◌∷◌, length, map, Option, Some, None, subst, arith}
 use Rattle.sched_model.specs.declared.schedule.Schedule.{Schedule}
-use Rattle.sched_model.specs.PlainMode.{PlainMode, most_rounds}
+use Rattle.sched_model.specs.PlainMode.{PlainMode}
 use Rattle.sched_model.specs.Laws.{OwnTreesAreValid, TreesShowFewest, PrintedIsRight}
 use Rattle.sched_model.specs.RefutationTree.{Node, node_of, IsTree, OwnTree}
 use Rattle.sched_model.specs.ValidMode.{IsValid}

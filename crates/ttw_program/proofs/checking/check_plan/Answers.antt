@@ -1,7 +1,6 @@
 use Rattle.std.proofs.Common.{subst, List, ℕ}
 use Rattle.ttw_program.specs.Checks.{CheckDue}
-use Rattle.ttw_program.proofs.Answering.{longer_at}
-use Rattle.ttw_program.proofs.CheckAnswers.{long_plan, whole_plan}
+use Rattle.ttw_program.proofs.CheckAnswers.{whole_plan}
 use Rattle.ttw_program.proofs.checking.check_plan.Goals as goal
 
 pub returns-in_ok-check_bytes-in-Ok-clause-due : goal.returns-in_ok-check_bytes-in-Ok-clause-due

@@ -1,5 +1,5 @@
-use Rattle.std.proofs.Common.{◌≤◌, ap, arith, length}
-use Rattle.proof_tree.proofs.ModeCounts.{few_modes}
+use Rattle.std.proofs.Common.{ap, arith, length}
+use Rattle.sched_model.proofs.TaskNumbers.{few_modes}
 use Rattle.ttw_program.proofs.planning.count_of.Goals as goal
 
 pub overflow_cast-result : goal.overflow_cast-result

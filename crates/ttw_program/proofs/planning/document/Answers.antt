@@ -1,4 +1,4 @@
-use Rattle.std.proofs.Common.{◌≡◌, ◌∙◌, ◌++◌, List, ℕ, [], ap, sym, inl, subst}
+use Rattle.std.proofs.Common.{◌≡◌, ◌∙◌, ◌++◌, List, ℕ, ap, sym, inl, subst}
 use Rattle.std.proofs.lemmas.Slice.Zip.{AllZip-long}
 use Rattle.proof_tree.specs.OwnDocument.{OwnDoc}
 use Rattle.proof_tree.specs.PlanText.{plan_text}

@@ -1,4 +1,4 @@
-use Rattle.std.proofs.Common.{◌∙◌, subst, sym, arith, List, ℕ, map}
+use Rattle.std.proofs.Common.{subst, sym, arith, List, ℕ, map}
 use Rattle.std.specs.Prelude.{IfOk}
 use Rattle.std.proofs.lemmas.List.{length-map}
 use Rattle.ttw_program.specs.Commands.{Command}
