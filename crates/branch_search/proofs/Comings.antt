@@ -1,13 +1,14 @@
 -- What is known after each kind of visit, as the search stores its nodes
-use Rattle.std.proofs.Common.{◌≡◌, ℕ, zero, suc, ◌+◌, ◌-◌, ◌<◌, ◌≤◌, List, [], ◌∷◌, ◌++◌, length, take, drop, map, All, refl, sym, ◌∙◌, ap, subst, arith, ℤ, ◌≤ℤ◌, ◌<ℤ◌, length-append}
+use Rattle.std.proofs.Common.{◌≡◌, ℕ, zero, suc, ◌+◌, ◌-◌, ◌<◌, ◌≤◌, List, [], ◌∷◌, ◌++◌, length, take, drop, map, All, refl, sym, ◌∙◌, ap, subst, arith, ⊎_elim, ℤ, ◌≤ℤ◌, ◌<ℤ◌, length-append}
 use Rattle.std.specs.List.{AllByRecursion}
+use Rattle.std.proofs.lemmas.Bool.{cases_lt}
 use Rattle.std.proofs.lemmas.List.{map_push, length-map, length_push, take_at, take_all, take-append-le}
 use Rattle.std.proofs.lemmas.List.Elements.{All-push, All-weaker, recursion_from_All}
 use Rattle.sched_model.specs.declared.trees.TreeNode.{TreeNode}
 use Rattle.sched_model.specs.declared.trees.TreeNode.TheVariants.{Branch, Short, Full, Cycle}
 use Rattle.sched_model.specs.Numbers.{span}
 use Rattle.sched_model.specs.PlainMode.{PlainMode}
-use Rattle.sched_model.specs.ConstraintProblem.{vars, alternatives, decisions, in_force}
+use Rattle.sched_model.specs.ConstraintProblem.{Decision, vars, alternatives, decisions, in_force, load_of}
 use Rattle.sched_model.specs.OpenPrefix.{Open}
 use Rattle.sched_model.specs.SearchCost.{LeadsAt, Visited}
 use Rattle.sched_model.specs.PrintedSchedule.{FirstList}
@@ -16,13 +17,15 @@ use Rattle.tick_num.specs.Differences.{LeastValues, listed}
 use Rattle.std.specs.Prelude.{Result, Ok, Err, IfOk, Option, Some, None}
 use Rattle.branch_search.specs.declared.walk.Next.{Next}
 use Rattle.branch_search.specs.declared.walk.Next.TheVariants as nexts
-use Rattle.branch_search.specs.Coming.{IsStep, Comes, Benched}
+use Rattle.branch_search.specs.Coming.{IsStep, Comes, Benched, CountedFor}
 use Rattle.branch_search.proofs.Forces.{serves_next}
-use Rattle.sched_model.specs.RefutationTree.{Node, branch, cycle, node_of, IsStored, OwnTree}
+use Rattle.sched_model.specs.RefutationTree.{Node, branch, cycle, node_of, IsStored, Roomy, OwnTree}
 use Rattle.branch_search.specs.Stacks.{Step, Due, Complete, next_due, Follows}
+use Rattle.branch_search.specs.Loads.{Counted}
 use Rattle.branch_search.specs.Walking.{Whole, Reached, Standing, Fits, Sees}
 use Rattle.branch_search.proofs.Numbered.{span_none}
-use Rattle.branch_search.proofs.Walks.{After, entered, comes_next, ended, no_children, is_first, full_found}
+use Rattle.branch_search.proofs.Walks.{After, entered, comes_next, ended, no_children, is_first, full_found, level_at}
+use Rattle.branch_search.proofs.Tallies.{counted_next}
 
 drop_front : (n : ℕ) (xs ys : List ℕ) → n ≤ length xs → drop n (xs ++ ys) ≡ drop n xs ++ ys
 drop_front zero xs ys l = refl
@@ -163,3 +166,27 @@ module _ (m : PlainMode) (r : ℕ) where
   open_seen p q values refs refs' seen w e is =
       let at : Sees m r p values refs refs' None = subst (λ (x : Option TreeNode). Sees m r p values refs refs' x) is (subst (λ (x : List ℤ). Sees m r x values refs refs' seen) e w) in
       (at.1, at.2)
+
+  -- the choices before the last one leave room in each round
+  pub front_roomy : (p g : List ℤ) (nodes : List Node) → Reached m r (length p) p g nodes → Roomy m r r (take (length p - 1) p)
+  front_roomy p g nodes w =
+      ⊎_elim
+      (λ (some : 0 < length p). let v = level_at m r (length p) (length p - 1) p g nodes w (omega (arith, some)) in v.2.is_open.loads)
+      (λ (none : length p ≤ 0). without p none)
+      (cases_lt 0 (length p))
+    where
+      unnamed : (q : ℕ) (ds : List Decision) → load_of r q ds [] ≡ 0
+      unnamed q [] = refl
+      unnamed q (d ∷ ds) = refl
+
+      without : (p : List ℤ) → length p ≤ 0 → Roomy m r r (take (length p - 1) p)
+      without [] none = λ q l. omega (arith, unnamed q (decisions m))
+      without (v ∷ p) none = absurd (omega (arith, none))
+
+  -- the counts of the rounds at the next prefix
+  pub counted_comes : {E : Type 0} (p q h : List ℤ) (counts : List ℕ) (named : List (Option ℕ)) (n : ℕ) (nodes' : List TreeNode) (refs' : List ℕ) (result : Result Next E) → IfOk result (λ next. Comes m r p n q h nodes' refs' next) →
+      Counted m r (length p) p counts named → IfOk result (λ next. CountedFor m r q counts named next)
+  counted_comes p q h counts named n nodes' refs' (Ok nexts.Due) w c = counted_next m r p q counts named c w.1
+  counted_comes p q h counts named n nodes' refs' (Ok nexts.Refuted) w c = tt
+  counted_comes p q h counts named n nodes' refs' (Ok nexts.Found) w c = tt
+  counted_comes p q h counts named n nodes' refs' (Err x) w c = tt

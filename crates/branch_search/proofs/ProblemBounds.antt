@@ -1,7 +1,6 @@
 -- The constraints of a problem fit the solver
-use Rattle.std.proofs.Common.{◌≡◌, ℕ, zero, suc, ◌+◌, ◌-◌, ◌*◌, ◌<◌, ◌≤◌, List, [], ◌∷◌, ◌++◌, length, get_or, take, All, refl, sym, ◌∙◌, ap, subst, arith, ℤ, pos, replicate, length-append, append_assoc}
+use Rattle.std.proofs.Common.{◌≡◌, ℕ, ◌+◌, ◌-◌, ◌<◌, ◌≤◌, List, [], ◌∷◌, ◌++◌, length, get_or, take, All, sym, ◌∙◌, ap, subst, arith, ℤ, pos, replicate, length-append, append_assoc}
 use Rattle.std.proofs.lemmas.List.{get_or_append_left, get_or-append-add, length-replicate, take_all, take_more, length-take-le}
-use Rattle.tick_num.specs.declared.differences.Diff.{Diff}
 use Rattle.sched_model.specs.PlainMode.{PlainMode}
 use Rattle.sched_model.specs.ConstraintProblem.{order, vars, base, decisions, chosen, chosen_all, in_force}
 use Rattle.sched_model.specs.OpenPrefix.{Chosen}

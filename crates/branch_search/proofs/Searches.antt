@@ -1,10 +1,12 @@
 -- From the loop of the search to its answers
-use Rattle.std.proofs.Common.{◌≡◌, ℕ, ◌+◌, ◌-◌, ◌*◌, ◌<◌, ◌≤◌, List, [], length, map, All, refl, sym, ◌∙◌, ap, subst, arith, ℤ}
+use Rattle.std.proofs.Common.{◌≡◌, ℕ, suc, ◌+◌, ◌-◌, ◌*◌, ◌<◌, ◌≤◌, List, [], length, map, All, Option, refl, sym, ◌∙◌, ap, subst, arith, ℤ}
 use Rattle.std.proofs.lemmas.List.{length-map, take_all}
 use Rattle.tick_num.specs.declared.differences.Diff.{Diff}
+use Rattle.tick_num.specs.Differences.{LeastValues, listed}
+use Rattle.sched_model.specs.PrintedSchedule.{FirstList}
 use Rattle.sched_model.specs.declared.trees.TreeNode.{TreeNode}
 use Rattle.sched_model.specs.PlainMode.{PlainMode}
-use Rattle.sched_model.specs.ConstraintProblem.{vars, base, decisions}
+use Rattle.sched_model.specs.ConstraintProblem.{vars, base, decisions, in_force}
 use Rattle.sched_model.specs.SearchCost.{Visited}
 use Rattle.sched_model.specs.RefutationTree.{Node, node_of, IsOwnTree, OwnTree}
 use Rattle.sched_model.proofs.Refutations.{own_valid}
@@ -12,49 +14,54 @@ use Rattle.sched_model.proofs.OwnTrees.{tree_count, tree_excludes}
 use Rattle.branch_search.specs.declared.canonical.Answer.{Answer}
 use Rattle.branch_search.specs.declared.canonical.Answer.TheVariants.{Found, Refuted, Spent}
 use Rattle.branch_search.specs.Walking.{Standing, Fronts, Fits}
-use Rattle.branch_search.specs.Answers.{IsAnswer, HasTree}
+use Rattle.branch_search.specs.Answers.{IsAnswer, HasTree, HasList}
 use Rattle.branch_search.specs.declared.walk.Next.{Next}
 use Rattle.branch_search.specs.declared.walk.Next.TheVariants as nexts
-use Rattle.branch_search.specs.Coming.{Comes, Benched}
+use Rattle.branch_search.specs.Coming.{Comes, Benched, CountedFor}
 use Rattle.branch_search.proofs.Walks.{more_due}
 use Rattle.branch_search.proofs.Forces.{base_alone}
+use Rattle.branch_search.specs.Loads.{Tallied, Counted}
+use Rattle.branch_search.proofs.Tallies.{counted_first}
 use Rattle.branch_search.proofs.Comings.{root_stands}
 
 -- what is known before each visit
-pub record Ready (m : PlainMode) (r : ℕ) (p g : List ℤ) (nodes : List TreeNode) (refs : List ℕ) (list : List Diff) (v c n : ℕ) : Type 0 where
+pub record Ready (m : PlainMode) (r : ℕ) (p g : List ℤ) (nodes : List TreeNode) (refs : List ℕ) (list : List Diff) (counts : List ℕ) (named : List (Option ℕ)) (v c n : ℕ) : Type 0 where
   pub standing : Standing m r p g nodes refs
   pub fronts : Fronts m r p list
+  pub counted : Counted m r (length p - 1) p counts named
   pub variables : v ≡ vars m r
   pub room : c ≡ length (base m r) + 2 * length (decisions m)
   pub limit : c ≤ 131_072
   pub count : length nodes ≡ n
 
 module _ (m : PlainMode) (r : ℕ) where
-  ready_root : (list : List Diff) (v c : ℕ) → list ≡ base m r → All (Fits (vars m r)) list → v ≡ vars m r → c ≡ length (base m r) + 2 * length (decisions m) → c ≤ 131_072 → Ready m r [] [] [] [] list v c 0
-  ready_root list v c e f ev ec l = record {
+  ready_root : (list : List Diff) (counts : List ℕ) (named : List (Option ℕ)) (v c : ℕ) → list ≡ base m r → All (Fits (vars m r)) list → Tallied counts named → r ≤ length counts → v ≡ vars m r → c ≡ length (base m r) + 2 * length (decisions m) → c ≤ 131_072 → Ready m r [] [] [] [] list counts named v c 0
+  ready_root list counts named v c e f t k ev ec l = record {
     standing = root_stands m r;
     fronts = record { front = take_all (length (base m r) + 2 * (0 - 1)) list (omega (arith, ap (λ (x : List Diff). length x) e)) ∙ e ∙ sym (base_alone m r); fits = f };
+    counted = counted_first m r [] counts named refl k t;
     variables = ev;
     room = ec;
     limit = l;
     count = refl;
   }
 
-  pub ready_first : (p g : List ℤ) (nodes : List TreeNode) (refs : List ℕ) (list : List Diff) (v c : ℕ) → p ≡ [] → g ≡ [] → nodes ≡ [] → refs ≡ [] → list ≡ base m r → All (Fits (vars m r)) list → v ≡ vars m r → c ≡ length (base m r) + 2 * length (decisions m) → c ≤ 131_072 →
-      Ready m r p g nodes refs list v c 0
-  ready_first p g nodes refs list v c ep eg en er e f ev ec l =
-      subst (λ (x : List ℤ). Ready m r x g nodes refs list v c 0) (sym ep)
-      (subst (λ (x : List ℤ). Ready m r [] x nodes refs list v c 0) (sym eg)
-      (subst (λ (x : List TreeNode). Ready m r [] [] x refs list v c 0) (sym en)
-      (subst (λ (x : List ℕ). Ready m r [] [] [] x list v c 0) (sym er) (ready_root list v c e f ev ec l))))
+  pub ready_first : (p g : List ℤ) (nodes : List TreeNode) (refs : List ℕ) (list : List Diff) (counts : List ℕ) (named : List (Option ℕ)) (v c : ℕ) → p ≡ [] → g ≡ [] → nodes ≡ [] → refs ≡ [] → list ≡ base m r → All (Fits (vars m r)) list → Tallied counts named → r ≤ length counts → v ≡ vars m r → c ≡ length (base m r) + 2 * length (decisions m) → c ≤ 131_072 →
+      Ready m r p g nodes refs list counts named v c 0
+  ready_first p g nodes refs list counts named v c ep eg en er e f t k ev ec l =
+      subst (λ (x : List ℤ). Ready m r x g nodes refs list counts named v c 0) (sym ep)
+      (subst (λ (x : List ℤ). Ready m r [] x nodes refs list counts named v c 0) (sym eg)
+      (subst (λ (x : List TreeNode). Ready m r [] [] x refs list counts named v c 0) (sym en)
+      (subst (λ (x : List ℕ). Ready m r [] [] [] x list counts named v c 0) (sym er) (ready_root list counts named v c e f t k ev ec l))))
 
-  pub ready_next : (p g q h : List ℤ) (nodes nodes' : List TreeNode) (refs refs' : List ℕ) (list list' : List Diff) (values : List ℤ) (v c v' c' n : ℕ) (next : Next) → Ready m r p g nodes refs list v c n → Comes m r p (length nodes) q h nodes' refs' next → Benched m r q list' values next → next ≡ nexts.Due → v' ≡ v → c' ≡ c →
-      Ready m r q h nodes' refs' list' v' c' (n + 1)
-  ready_next p g q h nodes nodes' refs refs' list list' values v c v' c' n next s a b is ev ec =
+  pub ready_next : (p g q h : List ℤ) (nodes nodes' : List TreeNode) (refs refs' : List ℕ) (list list' : List Diff) (counts counts' : List ℕ) (named named' : List (Option ℕ)) (values : List ℤ) (v c v' c' n : ℕ) (next : Next) → Ready m r p g nodes refs list counts named v c n → Comes m r p (length nodes) q h nodes' refs' next → Benched m r q list' values next → CountedFor m r q counts' named' next → next ≡ nexts.Due → v' ≡ v → c' ≡ c →
+      Ready m r q h nodes' refs' list' counts' named' v' c' (n + 1)
+  ready_next p g q h nodes nodes' refs refs' list list' counts counts' named named' values v c v' c' n next s a b d is ev ec =
       let w = subst (Comes m r p (length nodes) q h nodes' refs') is a in
       record {
         standing = w.0;
         fronts = subst (Benched m r q list' values) is b;
+        counted = subst (CountedFor m r q counts' named') is d;
         variables = ev ∙ s.variables;
         room = ec ∙ s.room;
         limit = omega (arith, ec, s.limit);
@@ -82,3 +89,18 @@ module _ (m : PlainMode) (r : ℕ) where
         λ leads. tree_excludes m r (length (decisions m)) [] (map (node_of tree.refs) tree.nodes) [] (own_valid m r (length (decisions m)) [] (map (node_of tree.refs) tree.nodes) [] own.tree) leads,
       )
   refuted_answer p q h before n budget nodes refs next Spent w is e l a = absurd a
+
+  pub found_answer : (p q h : List ℤ) (before n budget : ℕ) (nodes : List TreeNode) (refs : List ℕ) (list : List Diff) (values vs : List ℤ) (next : Next) (answer : Answer) → Comes m r p before q h nodes refs next → Benched m r q list values next → next ≡ nexts.Found → before ≡ n → n < budget → vs ≡ values → HasList q vs (n + 1) answer → IsAnswer m r budget answer
+  found_answer p q h before n budget nodes refs list values vs next (Found c ws k) w b is e l same a =
+      let f = subst (Comes m r p before q h nodes refs) is w in
+      let least = subst (Benched m r q list values) is b in
+      let count : suc before ≡ k = omega (arith, e, a.2) in (
+        subst (FirstList m r) (sym a.0) f.0,
+        subst (λ (z : List ℤ). LeastValues (in_force m r z) (listed ws)) (sym a.0) (subst (λ (z : List ℤ). LeastValues (in_force m r q) (listed z)) (sym (a.1 ∙ same)) least.0),
+        ap (λ (z : List ℤ). length z) (a.1 ∙ same) ∙ least.1,
+        f.2,
+        subst (Visited m r) count f.3,
+        omega (arith, a.2, l),
+      )
+  found_answer p q h before n budget nodes refs list values vs next (Refuted tree k) w b is e l same a = absurd a
+  found_answer p q h before n budget nodes refs list values vs next Spent w b is e l same a = absurd a

@@ -1,4 +1,5 @@
 pub mod Stacks
 pub mod Walking
+pub mod Loads
 pub mod Coming
 pub mod Answers

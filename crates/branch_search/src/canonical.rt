@@ -2,9 +2,11 @@
 
 ghost use Rattle.std.specs.Prelude.{◌≡◌, ◌+◌, ◌*◌, ◌≤◌, length, All, IfOk};
 ghost use Rattle.sched_model.specs.ConstraintProblem.{vars, base, decisions};
+ghost use Rattle.branch_search.specs.Loads.{Tallied};
 ghost use Rattle.branch_search.specs.Walking.{Fits};
 ghost use Rattle.branch_search.specs.Answers.{HasList, HasTree, IsAnswer};
 
+use crate::loads::Loads;
 use crate::posed::Posed;
 use crate::seeing::Bench;
 use crate::walk::{Next, Walk, visit};
@@ -32,10 +34,13 @@ pub enum Answer {
     Spent,
 }
 
-/// The base list, and room for the longest list of constraints.
+/// The base list, and room for the longest list of constraints and for all choices. The starts of the rounds are the first
+/// of the variables, so that a count for each variable has one for each round.
 fn prepare<P: Posed>(alloc: Global, problem: &P) -> Result<Bench, AllocError>
     ensures list { IfOk result (λ b. b.constraints.items ≡ base (P.mode problem.now) (P.rounds problem.now)) }
     ensures fits { IfOk result (λ b. All (Fits (vars (P.mode problem.now) (P.rounds problem.now))) b.constraints.items) }
+    ensures counts { IfOk result (λ b. Tallied b.loads.counts.items b.loads.named.items) }
+    ensures rounds { IfOk result (λ b. P.rounds problem.now ≤ length b.loads.counts.items) }
     ensures variables { IfOk result (λ b. b.work.variables ≡ vars (P.mode problem.now) (P.rounds problem.now)) }
     ensures room { IfOk result (λ b. b.work.constraints ≡ length (base (P.mode problem.now) (P.rounds problem.now)) + 2 * length (decisions (P.mode problem.now))) }
     ensures limit { IfOk result (λ b. b.work.constraints ≤ 131_072) }
@@ -44,7 +49,12 @@ fn prepare<P: Posed>(alloc: Global, problem: &P) -> Result<Bench, AllocError>
     let room = base.len() + 2 * problem.decisions();
     let constraints = Vec::from_slice(alloc, base)?;
     let work = Work::reserve(alloc, problem.vars(), room)?;
-    Ok(Bench { constraints, work })
+    let loads = Loads::reserve(alloc, problem.vars() as usize, problem.decisions())?;
+    Ok(Bench {
+        constraints,
+        work,
+        loads,
+    })
 }
 
 impl Walk {

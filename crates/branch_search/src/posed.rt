@@ -1,11 +1,11 @@
 //! What a search asks of a constraint problem.
 
-ghost use Rattle.std.specs.Prelude.{◌≡◌, ℕ, ◌+◌, ◌-◌, ◌*◌, ◌<◌, ◌≤◌, ◌↔◌, List, [], ◌∷◌, length, slice_index_or, All, ℤ, pos, IsTrue, MatchOption};
+ghost use Rattle.std.specs.Prelude.{◌≡◌, ℕ, ◌+◌, ◌-◌, ◌*◌, ◌<◌, ◌≤◌, ◌↔◌, List, [], ◌∷◌, length, slice_index_or, All, ℤ, pos, IsTrue, IfNone, IfSome};
 ghost use Rattle.sched_model.specs.Numbers.{span};
 ghost use Rattle.sched_model.specs.PlainMode.{PlainMode, instances};
-ghost use Rattle.sched_model.specs.ConstraintProblem.{vars, base, alternatives, decisions, chosen, load, order};
+ghost use Rattle.sched_model.specs.ConstraintProblem.{vars, base, alternatives, decisions, chosen, order};
 ghost use Rattle.sched_model.specs.OpenPrefix.{Chosen};
-ghost use Rattle.sched_model.specs.RefutationTree.{Roomy};
+ghost use Rattle.constraint_set.specs.Decided.{NamesNone, NamesRound};
 ghost use Rattle.branch_search.specs.Walking.{Fits};
 
 use tick_num::Diff;
@@ -50,10 +50,14 @@ pub trait Posed {
     fn short_of_slots(&self) -> bool
         ensures { IsTrue result ↔ (rounds self.now * (mode self.now).slots < instances (mode self.now)) };
 
-    /// The first round, from 1, that these choices name more often than it has slots.
-    fn overfull(&self, prefix: &[i64]) -> Option<u64>
-        requires few { length prefix.now ≤ length (decisions (mode self.now)) }
-        requires chosen { Chosen (mode self.now) (rounds self.now) prefix.now }
-        ensures { MatchOption result (Roomy (mode self.now) (rounds self.now) (rounds self.now) prefix.now)
-            (λ j. (1 ≤ j) × (j ≤ rounds self.now) × Roomy (mode self.now) (rounds self.now) (j - 1) prefix.now × ((mode self.now).slots < load (mode self.now) (rounds self.now) (j - 1) prefix.now)) };
+    /// The number of slots in a round.
+    fn slots(&self) -> u32
+        ensures { result ≡ (mode self.now).slots };
+
+    /// The round, from 1, that this choice for the decision at the place `at` names. None exactly where it names none of
+    /// the rounds, as that of a pair of tasks.
+    fn round_of(&self, at: usize, value: i64) -> Option<u64>
+        requires { at < length (decisions (mode self.now)) }
+        ensures none { IfNone result (NamesNone (rounds self.now) (slice_index_or (decisions (mode self.now)) at (order 0 0)) value) }
+        ensures some { IfSome result (NamesRound (rounds self.now) (slice_index_or (decisions (mode self.now)) at (order 0 0)) value) };
 }

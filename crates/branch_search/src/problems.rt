@@ -36,7 +36,11 @@ impl Posed for Problem {
         self.short_of_slots()
     }
 
-    fn overfull(&self, prefix: &[i64]) -> Option<u64> {
-        self.overfull(prefix)
+    fn slots(&self) -> u32 {
+        self.slots()
+    }
+
+    fn round_of(&self, at: usize, value: i64) -> Option<u64> {
+        self.round_of(at, value)
     }
 }
