@@ -1,3 +1,4 @@
+pub mod Examples
 pub mod Form
 pub mod Meaning
 pub mod Script
