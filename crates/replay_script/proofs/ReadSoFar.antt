@@ -1,5 +1,5 @@
 -- What is known between two lines
-use Rattle.std.proofs.Common.{◌≡◌, ℕ, ◌+◌, ◌≤◌, List, [], ◌∷◌, ◌++◌, length, drop, sum_by, filter_map, Some, None, Ok, Err, sym, ap, ◌∙◌, arith, length-append, append_assoc}
+use Rattle.std.proofs.Common.{◌≡◌, ℕ, ◌+◌, ◌≤◌, List, [], ◌∷◌, ◌++◌, length, drop, sum_by, filter_map, Some, None, Ok, Err, sym, ap, ◌∙◌, arith, subst, length-append, append_assoc}
 use Rattle.std.specs.List.{concat}
 use Rattle.std.proofs.lemmas.List.{append-nil, drop_all}
 use Rattle.std.proofs.lemmas.List.Elements.{filter_map-append}
@@ -12,6 +12,8 @@ use Rattle.ttw_text.specs.Lines.{lines}
 use Rattle.replay_script.specs.declared.line.Line.{Line}
 use Rattle.replay_script.specs.declared.fault.ScriptFault.{ScriptFault}
 use Rattle.replay_script.specs.declared.fault.ScriptFault.TheVariants.{BadLine, Unknown, HostNamed, TooMany, Memory}
+use Rattle.replay_script.specs.Fitting.{FitsScript}
+use Rattle.replay_script.proofs.FittingLines.{script_fits}
 use Rattle.replay_script.specs.Script.{Reads, asked, fault_at, fault_behind, first_fault, given, given_by, steps}
 
 -- the lines before this place are read: none of them is faulty, and they give these lines
@@ -94,3 +96,12 @@ read_whole set text from number sum script h end =
     let none : lines (drop from text) ≡ [] = ap lines (drop_all from text (omega (arith, end))) in
     let all : lines text ≡ h.earlier = h.all ∙ ap (λ (xs : List (List ℕ)). h.earlier ++ xs) none ∙ append-nil h.earlier in
     (h.rest ∙ ap (each_after (fault_behind set) h.earlier) none, h.gives ∙ sym (ap (given_by set) all))
+
+pub whole_fits : (set : ModeSet) (text : List ℕ) (from number sum : ℕ) (script : List Line) → HasRead set text from number sum script
+    → from ≡ length text → FitsScript set script
+whole_fits set text from number sum script h end =
+    let none : lines (drop from text) ≡ [] = ap lines (drop_all from text (omega (arith, end))) in
+    let all : lines text ≡ h.earlier = h.all ∙ ap (λ (xs : List (List ℕ)). h.earlier ++ xs) none ∙ append-nil h.earlier in
+    let right : each_after (fault_behind set) [] h.earlier ≡ None =
+    ap (each_after (fault_behind set) []) (sym all) ∙ h.rest ∙ ap (each_after (fault_behind set) h.earlier) none in
+    subst (FitsScript set) (sym h.gives) (script_fits set h.earlier right (omega (arith, h.number_is, h.few)) (subst (λ (n : ℕ). n ≤ 1000000) h.sum_is h.fits))

@@ -1,4 +1,5 @@
 pub mod Examples
+pub mod Fitting
 pub mod Form
 pub mod Meaning
 pub mod Script

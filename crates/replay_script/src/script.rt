@@ -3,6 +3,7 @@
 ghost use Rattle.std.specs.Prelude.{◌≡◌, ◌+◌, ◌≤◌, ◌++◌, ◌∷◌, [], None, Some, filter_map, IfOk, IfErr, OnOk};
 ghost use Rattle.app_graph.specs.Validation.{KeepsRules};
 ghost use Rattle.replay_script.specs.declared.fault.ScriptFault.TheVariants.{Memory};
+ghost use Rattle.replay_script.specs.Fitting.{FitsScript};
 ghost use Rattle.replay_script.specs.Form.{Restart};
 ghost use Rattle.replay_script.specs.Meaning.{meaning};
 ghost use Rattle.replay_script.specs.Script.{Fits, Gives, Reads, asked, content, fault_at, given, has_feed, name_fault, steps, steps_of};
@@ -162,7 +163,8 @@ fn put(script: &mut Vec<Line>, line: Option<Line>) -> Result<(), ScriptFault>
 /// faulty line; want of memory. Memory is taken for the list alone. docs/SCRIPT.md states the format.
 pub fn read_script(alloc: Global, set: &ModeSet, text: &[u8]) -> Result<ListOf<Line>, ScriptFault>
     requires { KeepsRules set.now }
-    ensures { Reads set.now text.now result }
+    ensures exact { Reads set.now text.now result }
+    ensures fits { IfOk result (FitsScript set.now) }
 {
     let mut script = Vec::new(alloc);
     let mut from = 0;
