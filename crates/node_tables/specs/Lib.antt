@@ -2,3 +2,5 @@ pub mod Fields
 pub mod Image
 pub mod Left
 pub mod Reading
+pub mod OwnParts
+pub mod Parts

@@ -5,6 +5,7 @@ mod entries;
 mod fault;
 mod image;
 mod reader;
+mod rows;
 mod tables;
 #[cfg(test)]
 mod tests;
