@@ -4,3 +4,4 @@ pub mod Left
 pub mod Reading
 pub mod OwnParts
 pub mod Parts
+pub mod PartLimits

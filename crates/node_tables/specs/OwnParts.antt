@@ -102,27 +102,25 @@ first_message (m ∷ ms) = m.number
 abbrev pub release_in : ℤ → ℤ → ℕ → ℤ
 release_in start opens period = int_div_euclid (start -ℤ opens) (pos period) *ℤ pos period
 
--- slot s of a round with this start has the message with number n
-abbrev pub slot_kept : List MessageRow → List (ℤ × ℤ) → ℤ → ℕ → ℕ → OwnSlot
-slot_kept messages windows start s n =
+-- slot s of the round at place j has the message with number n
+abbrev pub slot_kept : List MessageRow → Schedule → ℕ → ℕ → ℕ → OwnSlot
+slot_kept messages schedule j s n =
     let i = n - first_message messages in
-    record { slot = s; message = n; release = release_in start (slice_index_or windows i (pos 0, pos 0)).0 (slice_index_or messages i no_message_row).period }
+    record { slot = s; message = n; release = release_in (slice_index_or schedule.starts j (pos 0)) (slice_index_or schedule.messages i (pos 0, pos 0)).0 (slice_index_or messages i no_message_row).period }
 
 -- the slot, if it has an own message
-abbrev pub slot_part : List MessageRow → List (ℤ × ℤ) → ℤ → ℕ → ℕ → List OwnSlot
-slot_part messages windows start s n =
+abbrev pub slot_part : List MessageRow → Schedule → ℕ → ℕ → ℕ → List OwnSlot
+slot_part messages schedule j s n =
     let i = n - first_message messages in
-    cond (nat_lt i (length messages) && not (nat_eq (slice_index_or messages i no_message_row).role 0)) (slot_kept messages windows start s n ∷ []) []
+    cond (nat_lt i (length messages) && not (nat_eq (slice_index_or messages i no_message_row).role 0)) (slot_kept messages schedule j s n ∷ []) []
 
--- the own slots of a round with this start and this table
-abbrev pub slots_kept : List MessageRow → List (ℤ × ℤ) → ℤ → List ℕ → List OwnSlot
-slots_kept messages windows start table = flat_map (λ k. slot_part messages windows start (k + 1) (slice_index_or table k 0)) (below (length table))
+-- the own slots of the round at place j, which has this table
+abbrev pub slots_kept : List MessageRow → Schedule → ℕ → List ℕ → List OwnSlot
+slots_kept messages schedule j table = flat_map (λ k. slot_part messages schedule j (k + 1) (slice_index_or table k 0)) (below (length table))
 
 -- the round at place j
 abbrev pub round_kept : List MessageRow → Schedule → ℕ → OwnRound
-round_kept messages s j =
-    let start = slice_index_or s.starts j (pos 0) in
-    record { start = start; slots = slots_kept messages s.messages start (slice_index_or s.tables j []) }
+round_kept messages s j = record { start = slice_index_or s.starts j (pos 0); slots = slots_kept messages s j (slice_index_or s.tables j []) }
 
 abbrev pub rounds_kept : List MessageRow → Schedule → List OwnRound
 rounds_kept messages s = map (round_kept messages s) (below (length s.starts))

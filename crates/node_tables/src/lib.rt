@@ -4,6 +4,7 @@
 mod entries;
 mod fault;
 mod image;
+mod parts;
 mod reader;
 mod rows;
 mod tables;

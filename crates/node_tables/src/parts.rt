@@ -1,0 +1,176 @@
+//! A node's part of the plans.
+
+ghost use Rattle.std.specs.Prelude.{◌≡◌, [], ℕ, ◌+◌, ◌-◌, ◌<◌, ◌≤◌, ◌++◌, All, IfOk, length, map, pos, slice_index_or, ◌≤ℤ◌};
+ghost use Rattle.std.specs.List.{flat_map};
+ghost use Rattle.app_graph.specs.Validation.{KeepsRules};
+ghost use Rattle.sched_model.specs.PlainMode.{hyper, mode_at, plain_at};
+ghost use Rattle.sched_model.specs.RightSchedule.{IsSchedule};
+ghost use Rattle.sched_model.specs.TimeLimits.{HasTimes, IsTime};
+ghost use Rattle.runtime_model.specs.NodeTables.{part_of};
+ghost use Rattle.runtime_model.specs.Plans.{no_schedule, plan_of, plans_of};
+ghost use Rattle.node_tables.specs.Image.{IsInRange};
+ghost use Rattle.node_tables.specs.OwnParts.{first_message, mode_kept, release_in, round_kept, rounds_kept, slot_kept, slot_part, slots_kept, task_part, tasks_kept};
+ghost use Rattle.node_tables.specs.PartLimits.{FewSlots, HasSizes, IsMessageRow, IsTaskRow};
+ghost use Rattle.node_tables.specs.Parts.{AreSchedules, plain_table, typed_table};
+
+use crate::rows::{MessageRow, first_message, make_messages, make_tasks};
+use crate::tables::{ModeTable, NodeTable, OwnRound, OwnSlot, OwnTask};
+use app_graph::{App, ListOf, ModeSet};
+use sched_model::{Schedule, TaskRow, hyper};
+use std::alloc::{AllocError, Global};
+use tick_num::Time;
+
+/// The tasks on the node, with their offsets.
+fn own_tasks(
+    alloc: Global,
+    tasks: &[TaskRow],
+    offsets: &[Time],
+    node: u32,
+) -> Result<Vec<OwnTask>, AllocError>
+    requires each { length offsets.now ≡ length tasks.now }
+    requires limits { All IsTaskRow tasks.now }
+    ensures { IfOk result (λ v. v.items ≡ tasks_kept tasks.now offsets.now node) }
+{
+    let mut own = Vec::new(alloc);
+    for (place, task) in tasks.iter().enumerate() {
+        if task.node == node {
+            own.push(OwnTask {
+                number: task.number,
+                period: task.period as i64,
+                offset: offsets[place],
+                wcet: task.wcet as i64,
+            })?;
+        }
+    }
+    Ok(own)
+}
+
+/// The release of a slot in the round that starts at `start`: the last multiple of the message's period after which its window
+/// has opened.
+fn release(start: Time, opens: Time, period: u64) -> Time
+    requires start { IsTime start }
+    requires opens { IsTime opens }
+    requires period { (1 ≤ period) × (period ≤ 1000000000) }
+    ensures { result ≡ release_in start opens period }
+{
+    let since = start - opens;
+    let period = period as i64;
+    since.div_euclid(period) * period
+}
+
+/// The slot with the message of this number, which stands at the place of the mode, in a round of the schedule.
+fn make_slot(
+    messages: &[MessageRow],
+    schedule: &Schedule,
+    round: usize,
+    slot: u8,
+    number: u32,
+    place: usize,
+) -> OwnSlot
+    requires round { round < length schedule.now.starts }
+    requires sizes { HasSizes schedule.now (length messages.now) }
+    requires times { HasTimes schedule.now }
+    requires messages { All IsMessageRow messages.now }
+    requires place { (place ≡ number - first_message messages.now) × (place < length messages.now) }
+    ensures { result ≡ slot_kept messages.now schedule.now round slot number }
+{
+    let start = schedule.starts.as_slice()[round];
+    let (opens, _) = schedule.messages.as_slice()[place];
+    OwnSlot {
+        slot,
+        message: number,
+        release: release(start, opens, messages[place].period),
+    }
+}
+
+/// Adds the slot with the message of this number if it is an own one.
+fn add_slot(
+    own: &mut Vec<OwnSlot>,
+    messages: &[MessageRow],
+    schedule: &Schedule,
+    round: usize,
+    slot: u8,
+    number: u32,
+) -> Result<(), AllocError>
+    requires round { round < length schedule.now.starts }
+    requires sizes { HasSizes schedule.now (length messages.now) }
+    requires times { HasTimes schedule.now }
+    requires messages { All IsMessageRow messages.now }
+    ensures { IfOk result (λ _. own.new.items ≡ own.old.items ++ slot_part messages.now schedule.now round slot number) }
+{
+    let place = number.saturating_sub(first_message(messages)) as usize;
+    if place < messages.len() && messages[place].role != 0 {
+        own.push(make_slot(messages, schedule, round, slot, number, place))?;
+    }
+    Ok(())
+}
+
+/// The table of the round at the place.
+fn table_of(schedule: &Schedule, round: usize) -> &[u32]
+    requires round { round < length schedule.now.starts }
+    requires tables { length schedule.now.tables ≡ length schedule.now.starts }
+    requires few { All FewSlots schedule.now.tables }
+    ensures table { result.now ≡ slice_index_or schedule.now.tables round [] }
+    ensures few { length result.now ≤ 32 }
+{
+    schedule.tables.as_slice()[round].as_slice()
+}
+
+/// The own slots of the round at the place.
+fn own_slots(
+    alloc: Global,
+    messages: &[MessageRow],
+    schedule: &Schedule,
+    round: usize,
+) -> Result<Vec<OwnSlot>, AllocError>
+    requires round { round < length schedule.now.starts }
+    requires sizes { HasSizes schedule.now (length messages.now) }
+    requires times { HasTimes schedule.now }
+    requires messages { All IsMessageRow messages.now }
+    ensures { IfOk result (λ v. v.items ≡ slots_kept messages.now schedule.now round (slice_index_or schedule.now.tables round [])) }
+{
+    let mut own = Vec::new(alloc);
+    for (place, number) in table_of(schedule, round).iter().enumerate() {
+        let slot = place as u8 + 1;
+        add_slot(&mut own, messages, schedule, round, slot, *number)?;
+    }
+    Ok(own)
+}
+
+/// The round at the place, with its own slots.
+fn own_round(
+    alloc: Global,
+    messages: &[MessageRow],
+    schedule: &Schedule,
+    place: usize,
+) -> Result<OwnRound, AllocError>
+    requires place { place < length schedule.now.starts }
+    requires sizes { HasSizes schedule.now (length messages.now) }
+    requires times { HasTimes schedule.now }
+    requires messages { All IsMessageRow messages.now }
+    ensures { IfOk result (λ r. r ≡ round_kept messages.now schedule.now place) }
+{
+    let slots = own_slots(alloc, messages, schedule, place)?;
+    Ok(OwnRound {
+        start: schedule.starts.as_slice()[place],
+        slots: ListOf::from_vec(slots),
+    })
+}
+
+/// The rounds of the mode, each with its own slots.
+fn own_rounds(
+    alloc: Global,
+    messages: &[MessageRow],
+    schedule: &Schedule,
+) -> Result<Vec<OwnRound>, AllocError>
+    requires sizes { HasSizes schedule.now (length messages.now) }
+    requires times { HasTimes schedule.now }
+    requires messages { All IsMessageRow messages.now }
+    ensures { IfOk result (λ v. v.items ≡ rounds_kept messages.now schedule.now) }
+{
+    let mut rounds = Vec::new(alloc);
+    for place in 0..schedule.starts.as_slice().len() {
+        rounds.push(own_round(alloc, messages, schedule, place)?)?;
+    }
+    Ok(rounds)
+}
