@@ -6,3 +6,4 @@ pub mod PartLists
 pub mod PlainParts
 pub mod Numbering
 pub mod ModeParts
+pub mod WholeTables

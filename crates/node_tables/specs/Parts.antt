@@ -3,10 +3,10 @@ use Rattle.std.specs.Prelude.{◌≡◌, ℕ, ◌<◌, List, length, map, slice_
 use Rattle.app_graph.specs.declared.mode_set.ModeSet.{ModeSet}
 use Rattle.sched_model.specs.declared.schedule.Schedule.{Schedule}
 use Rattle.sched_model.specs.Numbers.{natural}
-use Rattle.sched_model.specs.PlainMode.{plain_at}
+use Rattle.sched_model.specs.PlainMode.{hyper, plain_at}
 use Rattle.sched_model.specs.RightSchedule.{IsSchedule}
-use Rattle.runtime_model.specs.NodeTables.{PlainOwnTask, PlainOwnMessage, PlainOwnSlot, PlainOwnRound, PlainModeTable, PlainNodeTable}
-use Rattle.runtime_model.specs.Plans.{no_schedule}
+use Rattle.runtime_model.specs.NodeTables.{PlainOwnTask, PlainOwnMessage, PlainOwnSlot, PlainOwnRound, PlainModeTable, PlainNodeTable, own_tasks, own_messages, own_rounds}
+use Rattle.runtime_model.specs.Plans.{Plan, no_schedule}
 use Rattle.node_tables.specs.declared.tables.NodeTable.{NodeTable}
 use Rattle.node_tables.specs.declared.tables.ModeTable.{ModeTable}
 use Rattle.node_tables.specs.declared.tables.OwnTask.{OwnTask}
@@ -62,3 +62,7 @@ typed_table t = record { node = t.node; modes = map typed_mode t.modes }
 pub record AreSchedules (set : ModeSet) (schedules : List Schedule) : Type 0 where
   pub one_each : length schedules ≡ length set.modes
   pub right : (i : ℕ) → i < length set.modes → let s = slice_index_or schedules i no_schedule in IsSchedule (plain_at set i) (length s.starts) s
+
+-- the part of node v of one plan, whose first round has this number over the file
+abbrev pub part_in : ℕ → ℕ → Plan → PlainModeTable
+part_in first v p = record { hyper = hyper p.mode; first_round = first; tasks = own_tasks p v; messages = own_messages p v; rounds = own_rounds p v }

@@ -14,4 +14,5 @@ mod writer;
 
 pub use fault::ImageFault;
 pub use image::{read_image, write_image};
+pub use parts::tables_of;
 pub use tables::{ModeTable, NodeTable, OwnMessage, OwnRound, OwnSlot, OwnTask};

@@ -11,7 +11,7 @@ ghost use Rattle.runtime_model.specs.Plans.{no_schedule, plan_of, plans_of};
 ghost use Rattle.node_tables.specs.Image.{IsInRange};
 ghost use Rattle.node_tables.specs.OwnParts.{first_message, mode_kept, release_in, round_kept, rounds_kept, slot_kept, slot_part, slots_kept, task_part, tasks_kept};
 ghost use Rattle.node_tables.specs.PartLimits.{FewSlots, HasSizes, IsMessageRow, IsTaskRow};
-ghost use Rattle.node_tables.specs.Parts.{AreSchedules, plain_table, typed_table};
+ghost use Rattle.node_tables.specs.Parts.{AreSchedules, part_in, plain_table, typed_mode, typed_table};
 
 use crate::rows::{MessageRow, first_message, make_messages, make_tasks};
 use crate::tables::{ModeTable, NodeTable, OwnRound, OwnSlot, OwnTask};
@@ -173,4 +173,88 @@ fn own_rounds(
         rounds.push(own_round(alloc, messages, schedule, place)?)?;
     }
     Ok(rounds)
+}
+
+/// The applications of a mode.
+fn apps_of(set: &ModeSet, mode: u32) -> &[App]
+    requires { mode < length set.now.modes }
+    ensures { result.now ≡ (mode_at set.now mode).apps }
+{
+    set.modes.as_slice()[mode as usize].apps.as_slice()
+}
+
+/// The node's part of the mode, whose first round has this number over the file.
+fn mode_part(
+    alloc: Global,
+    set: &ModeSet,
+    mode: u32,
+    schedule: &Schedule,
+    first_round: u16,
+    node: u32,
+) -> Result<ModeTable, AllocError>
+    requires rules { KeepsRules set.now }
+    requires mode { mode < length set.now.modes }
+    requires right { IsSchedule (plain_at set.now mode) (length schedule.now.starts) schedule.now }
+    ensures { IfOk result (λ t. t ≡ typed_mode (part_in first_round node (record { mode = plain_at set.now mode; schedule = schedule.now }))) }
+{
+    let apps = apps_of(set, mode);
+    let tasks = make_tasks(alloc, apps)?;
+    let messages = make_messages(alloc, tasks.as_slice(), node, apps)?;
+    let own = own_tasks(alloc, tasks.as_slice(), schedule.tasks.as_slice(), node)?;
+    let rounds = own_rounds(alloc, messages.rows.as_slice(), schedule)?;
+    Ok(ModeTable {
+        hyper: hyper(set, mode),
+        first_round,
+        tasks: ListOf::from_vec(own),
+        messages: ListOf::from_vec(messages.own),
+        rounds: ListOf::from_vec(rounds),
+    })
+}
+
+/// How many rounds the schedule has.
+fn round_count(set: &ModeSet, mode: u32, schedule: &Schedule) -> u16
+    requires rules { KeepsRules set.now }
+    requires mode { mode < length set.now.modes }
+    requires right { IsSchedule (plain_at set.now mode) (length schedule.now.starts) schedule.now }
+    ensures value { result ≡ length schedule.now.starts }
+    ensures most { result ≤ 256 }
+{
+    schedule.starts.as_slice().len() as u16
+}
+
+/// The schedule of the mode.
+fn schedule_of<'a>(set: &ModeSet, plans: &'a [Schedule], mode: usize) -> &'a Schedule
+    requires schedules { AreSchedules set.now plans.now }
+    requires mode { mode < length set.now.modes }
+    ensures value { result.now ≡ slice_index_or plans.now mode no_schedule }
+    ensures right { IsSchedule (plain_at set.now mode) (length result.now.starts) result.now }
+{
+    &plans[mode]
+}
+
+/// The part of the plans that concerns the node, where `plans` has the schedule of each mode in order.
+pub fn tables_of(
+    alloc: Global,
+    set: &ModeSet,
+    plans: &[Schedule],
+    node: u32,
+) -> Result<NodeTable, AllocError>
+    requires rules { KeepsRules set.now }
+    requires schedules { AreSchedules set.now plans.now }
+    requires node { node < length set.now.nodes }
+    ensures part { IfOk result (λ t. plain_table t ≡ part_of (plans_of set.now plans.now) node) }
+    ensures exact { IfOk result (λ t. t ≡ typed_table (part_of (plans_of set.now plans.now) node)) }
+{
+    let mut modes = Vec::new(alloc);
+    let mut first_round = 1;
+    for mode in 0..set.modes.as_slice().len() {
+        let schedule = schedule_of(set, plans, mode);
+        let count = round_count(set, mode as u32, schedule);
+        modes.push(mode_part(alloc, set, mode as u32, schedule, first_round, node)?)?;
+        first_round += count;
+    }
+    Ok(NodeTable {
+        node,
+        modes: ListOf::from_vec(modes),
+    })
 }
