@@ -7,3 +7,4 @@ pub mod PlainParts
 pub mod Numbering
 pub mod ModeParts
 pub mod WholeTables
+pub mod PartRanges

@@ -1,7 +1,17 @@
 -- Tasks and messages of a mode have numbers that follow each other
-use Rattle.std.proofs.Common.{◌≡◌, ℕ, zero, suc, ◌+◌, ◌-◌, ◌<◌, ◌≤◌, List, [], ◌∷◌, length, get_or, map, refl, sym, ◌∙◌, ap, subst, arith}
+use Rattle.std.proofs.Common.{◌≡◌, ℕ, zero, suc, ◌+◌, ◌-◌, ◌*◌, ◌<◌, ◌≤◌, true, false, None, List, [], ◌∷◌, length, get_or, map, refl, sym, ◌∙◌, ap, subst, arith}
 use Rattle.std.proofs.lemmas.List.{get_or-map, length-map}
+use Rattle.app_graph.specs.declared.raw.RawApp.{RawApp}
 use Rattle.app_graph.specs.declared.raw.RawMode.{RawMode}
+use Rattle.app_graph.specs.declared.raw.RawSet.{RawSet}
+use Rattle.app_graph.specs.declared.faults.GraphFault.TheVariants.{OutOfRange, TooMany}
+use Rattle.app_graph.specs.declared.keys.Key.TheVariants.{KMode, KNodes}
+use Rattle.app_graph.specs.ValueRules.{set_rules, node_rules, value_rules, at_most, has_some}
+use Rattle.app_graph.proofs.Kept.{all_kept, unless_kept}
+use Rattle.sched_model.proofs.KeptRules.{KeptMode, kept_set}
+use Rattle.std.specs.List.{AllByRecursion}
+use Rattle.std.proofs.lemmas.Bool.{leb-true}
+use Rattle.std.proofs.lemmas.List.Concat.{length-flat_map}
 use Rattle.app_graph.specs.declared.mode_set.Mode.{Mode}
 use Rattle.app_graph.specs.declared.mode_set.App.{App}
 use Rattle.app_graph.specs.declared.mode_set.ModeSet.{ModeSet}
@@ -14,16 +24,30 @@ abbrev no_mode : Mode
 no_mode = record { name = []; apps = [] }
 
 -- each mode is that of a raw one, with a first task and a first message
-raw_mode : (nodes : List (List ℕ)) (t m : ℕ) (raws : List RawMode) (i : ℕ) → i < length (modes_from nodes t m raws) →
-    (u n : ℕ) × (raw : RawMode) × (get_or (modes_from nodes t m raws) i no_mode ≡ mode_of nodes u n raw)
-raw_mode nodes t m [] i l = absurd (omega (arith, l))
-raw_mode nodes t m (raw ∷ raws) zero l = (t, m, raw, refl)
-raw_mode nodes t m (raw ∷ raws) (suc i) l = raw_mode nodes (t + task_count raw) (m + message_count raw) raws i (omega (arith, l))
+record Raw (nodes : List (List ℕ)) (t m i : ℕ) (mode : Mode) : Type 0 where
+  pub first_task : ℕ
+  pub first_message : ℕ
+  pub raw : RawMode
+  pub is : mode ≡ mode_of nodes first_task first_message raw
+  pub task_low : first_task ≤ t + 128 * i
+  pub message_low : first_message ≤ m + 64 * i
+
+raw_mode : (set : RawSet) (nodes : List (List ℕ)) (t m : ℕ) (raws : List RawMode) → AllByRecursion (KeptMode set) raws → (i : ℕ) → i < length (modes_from nodes t m raws) →
+    Raw nodes t m i (get_or (modes_from nodes t m raws) i no_mode)
+raw_mode set nodes t m [] few i l = absurd (omega (arith, l))
+raw_mode set nodes t m (raw ∷ raws) few zero l = record { first_task = t; first_message = m; raw = raw; is = refl; task_low = omega arith; message_low = omega arith }
+raw_mode set nodes t m (raw ∷ raws) few (suc i) l =
+    let r = raw_mode set nodes (t + task_count raw) (m + message_count raw) raws few.1 i (omega (arith, l)) in
+    let ts : task_count raw ≤ 128 = omega (arith, length-flat_map (λ (a : RawApp). a.tasks) raw.apps, few.0.tasks) in
+    let ms : message_count raw ≤ 64 = omega (arith, length-flat_map (λ (a : RawApp). a.messages) raw.apps, few.0.messages) in
+    record { first_task = r.first_task; first_message = r.first_message; raw = r.raw; is = r.is; task_low = omega (arith, r.task_low, ts); message_low = omega (arith, r.message_low, ms) }
 
 -- the first numbers of the tasks and of the messages
 pub record Numbered (set : ModeSet) (i : ℕ) : Type 0 where
   pub task : ℕ
   pub message : ℕ
+  pub task_low : task ≤ 128 * i
+  pub message_low : message ≤ 64 * i
   pub tasks : (a : ℕ) → a < length (plain_at set i).tasks → (task_at (plain_at set i) a).number ≡ task + a
   pub messages : (j : ℕ) → j < length (plain_at set i).messages → (message_at (plain_at set i) j).number ≡ message + j
 
@@ -38,10 +62,12 @@ message_number : (nodes : List (List ℕ)) (u n : ℕ) (raw : RawMode) (j : ℕ)
     j < length (plain_messages (tasks_of 0 apps) apps) → (get_or (plain_messages (tasks_of 0 apps) apps) j no_message).number ≡ n + j
 message_number nodes u n raw j l = (message_found nodes (tasks_of 0 (apps_from nodes u n raw.apps)) u n raw.apps j l).5.number
 
-of_apps : (set : ModeSet) (i : ℕ) (nodes : List (List ℕ)) (u n : ℕ) (raw : RawMode) → (mode_at set i).apps ≡ apps_from nodes u n raw.apps → Numbered set i
-of_apps set i nodes u n raw same = record {
+of_apps : (set : ModeSet) (i : ℕ) (nodes : List (List ℕ)) (u n : ℕ) (raw : RawMode) → u ≤ 128 * i → n ≤ 64 * i → (mode_at set i).apps ≡ apps_from nodes u n raw.apps → Numbered set i
+of_apps set i nodes u n raw ul nl same = record {
   task = u;
   message = n;
+  task_low = ul;
+  message_low = nl;
   tasks = λ a l.
       let ts = tasks_of 0 (mode_at set i).apps in
       let h : a < length ts = omega (arith, l, length-map ts plain_task) in
@@ -57,5 +83,32 @@ pub numbered : (set : ModeSet) → KeepsRules set → (i : ℕ) → i < length s
 numbered set keeps i l =
     let raw = keeps.0 in
     let same = ap (λ (x : ModeSet). x.modes) keeps.2 in
-    let r = raw_mode raw.nodes 0 0 raw.modes i (subst (λ (l : List Mode). i < length l) same l) in
-    of_apps set i raw.nodes r.0 r.1 r.2 (ap (λ (l : List Mode). (get_or l i no_mode).apps) same ∙ ap (λ (x : Mode). x.apps) r.3)
+    let r = raw_mode raw raw.nodes 0 0 raw.modes (kept_set raw keeps.1).modes i (subst (λ (l : List Mode). i < length l) same l) in
+    of_apps set i raw.nodes r.first_task r.first_message r.raw (omega (arith, r.task_low)) (omega (arith, r.message_low))
+    (ap (λ (l : List Mode). (get_or l i no_mode).apps) same ∙ ap (λ (x : Mode). x.apps) r.is)
+
+-- ---- the numbers of nodes and of modes
+length-modes : (nodes : List (List ℕ)) (t m : ℕ) (modes : List RawMode) → length (modes_from nodes t m modes) ≡ length modes
+length-modes nodes t m [] = refl
+length-modes nodes t m (mode ∷ modes) = ap suc (length-modes nodes (t + task_count mode) (m + message_count mode) modes)
+
+some_there : {X : Type 0} (xs : List X) → has_some xs ≡ true → 1 ≤ length xs
+some_there [] e = absurd (let q : false ≡ true = e in cc)
+some_there (x ∷ xs) e = omega arith
+
+raw_some : (raw : RawSet) → value_rules raw ≡ None → 1 ≤ length raw.modes
+raw_some raw e = let k = all_kept (set_rules raw) e in some_there raw.modes (unless_kept (has_some raw.modes) (OutOfRange KMode) k.1.1.0)
+
+raw_nodes : (raw : RawSet) → value_rules raw ≡ None → length raw.nodes ≤ 64
+raw_nodes raw e =
+    let k = all_kept (set_rules raw) e in
+    let n = all_kept (node_rules raw) k.1.0 in
+    leb-true (length raw.nodes) 64 (unless_kept (at_most 64 raw.nodes) (TooMany KNodes) n.1.0)
+
+pub some_mode : (set : ModeSet) → KeepsRules set → 1 ≤ length set.modes
+some_mode set (raw, e, same) =
+    let l : 1 ≤ length (set_of raw).modes = omega (arith, length-modes raw.nodes 0 0 raw.modes, raw_some raw e) in
+    subst (λ (s : ModeSet). 1 ≤ length s.modes) (sym same) l
+
+pub few_nodes : (set : ModeSet) → KeepsRules set → length set.nodes ≤ 64
+few_nodes set (raw, e, same) = subst (λ (s : ModeSet). length s.nodes ≤ 64) (sym same) (raw_nodes raw e)

@@ -244,6 +244,7 @@ pub fn tables_of(
     requires node { node < length set.now.nodes }
     ensures part { IfOk result (λ t. plain_table t ≡ part_of (plans_of set.now plans.now) node) }
     ensures exact { IfOk result (λ t. t ≡ typed_table (part_of (plans_of set.now plans.now) node)) }
+    ensures in_range { IfOk result IsInRange }
 {
     let mut modes = Vec::new(alloc);
     let mut first_round = 1;

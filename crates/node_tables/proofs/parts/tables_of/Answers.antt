@@ -1,11 +1,13 @@
-use Rattle.std.proofs.Common.{◌≡◌, ◌<◌, ◌≤◌, List, length, ap, ◌∙◌, arith, map}
+use Rattle.std.proofs.Common.{◌≡◌, ◌<◌, ◌≤◌, List, length, ap, sym, subst, ◌∙◌, arith, map}
 use Rattle.runtime_model.specs.NodeTables.{mode_tables, part_of}
 use Rattle.runtime_model.specs.Plans.{plans_of}
 use Rattle.sched_model.proofs.TaskNumbers.{few_modes}
 use Rattle.node_tables.specs.declared.tables.ModeTable.{ModeTable}
 use Rattle.node_tables.specs.declared.tables.NodeTable.{NodeTable}
+use Rattle.node_tables.specs.Image.{IsInRange}
 use Rattle.node_tables.specs.Parts.{plain_table, typed_mode, typed_table}
 use Rattle.node_tables.proofs.WholeTables.{parts_step, parts_end, plain_typed}
+use Rattle.node_tables.proofs.PartRanges.{part_range}
 use Rattle.node_tables.proofs.parts.tables_of.Goals as goal
 
 pub overflow_cast-mode : goal.overflow_cast-mode
@@ -36,4 +38,5 @@ returns c =
     let e : made c.from_vec.result ≡ typed_table part = ap made
     (c.from_vec.ensures ∙ parts_end c.args.set.now c.args.plans.now c.args.node c.loop-mode.mode c.loop-mode.first_round c.loop-mode.modes.items whole
         (omega (arith, c.loop-mode-test.false, ap length c.as_slice-mode-end.ensures)) c.loop-mode.invariant.modes) in
-    record { exact = e; part = ap plain_table e ∙ plain_typed part }
+    let range = part_range c.args.set.now c.args.plans.now c.args.node c.requires.rules c.requires.schedules c.requires.node in
+    record { exact = e; part = ap plain_table e ∙ plain_typed part; in_range = subst (λ (t : NodeTable). IsInRange t) (sym e) range }
