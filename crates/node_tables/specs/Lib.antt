@@ -5,3 +5,4 @@ pub mod Reading
 pub mod OwnParts
 pub mod Parts
 pub mod PartLimits
+pub mod TestPlans

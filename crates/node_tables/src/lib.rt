@@ -4,6 +4,8 @@
 mod entries;
 mod fault;
 mod image;
+#[cfg(test)]
+mod part_tests;
 mod parts;
 mod reader;
 mod rows;
