@@ -1,3 +1,4 @@
+pub mod CutTexts
 pub mod Bits
 pub mod FittingLines
 pub mod Limits

@@ -1,5 +1,5 @@
 -- What a script says: its lines that are not passed over, or the fault of its first faulty line
-use Rattle.std.specs.Prelude.{◌≡◌, ⊤, ℕ, ◌+◌, ◌-◌, ◌≤◌, Bool, false, not, ◌&&◌, nat_le, nat_eq, List, [], ◌∷◌, ◌++◌, length, take, filter_map, position, sum_by, slice_index_or, true, Option, Some, None, is_some, unwrap_or, Result, Ok, Err, if◌then◌else◌}
+use Rattle.std.specs.Prelude.{◌≡◌, ⊤, ℕ, ◌+◌, ◌-◌, ◌<◌, ◌≤◌, Bool, false, not, ◌&&◌, nat_le, nat_eq, List, [], ◌∷◌, ◌++◌, length, take, filter_map, position, sum_by, slice_index_or, true, Option, Some, None, is_some, unwrap_or, Result, Ok, Err, if◌then◌else◌}
 use Rattle.std.specs.List.{concat, list_all}
 use Rattle.std.specs.Str.{bytes_eq}
 use Rattle.app_graph.specs.declared.mode_set.ModeSet.{ModeSet}
@@ -122,3 +122,7 @@ pub record Fits (set : ModeSet) : Type 0 where
 pub record Gives (set : ModeSet) (number : ℕ) (asked : Form) (line : Option Line) : Type 0 where
   pub right : name_fault set number asked ≡ None
   pub line_is : line ≡ given set asked
+
+-- what is read of a script up to one byte past its limit, or further, has the fault of the whole script
+abbrev pub CutLaw : Type 0
+CutLaw = (set : ModeSet) (text : List ℕ) (most : ℕ) → 1048576 < most → first_fault set (take most text) ≡ first_fault set text

@@ -4,6 +4,7 @@
 mod examples;
 mod fault;
 mod form;
+mod laws;
 mod line;
 mod naming;
 mod script;
@@ -12,5 +13,6 @@ mod tests;
 
 pub use examples::script_rows;
 pub use fault::ScriptFault;
+pub use laws::cut_law;
 pub use line::Line;
 pub use script::read_script;

@@ -3,7 +3,7 @@
 ghost use Rattle.std.specs.Prelude.{IfOk};
 ghost use Rattle.app_graph.specs.Validation.{KeepsRules};
 
-use crate::{Line, ScriptFault, read_script, script_rows};
+use crate::{Line, ScriptFault, cut_law, read_script, script_rows};
 use app_graph::{GraphFault, ListOf, ModeSet, Name, RawApp, RawMode, RawSet, RawTask, validate};
 use std::alloc::{AllocError, Global};
 use std::test::Fail;
@@ -247,6 +247,7 @@ fn script_faults(rt: HostRuntime) -> Result<(), Fail> {
         assert!(rt; right, "{row:?}");
     }
     script_rows();
+    cut_law();
     Ok(())
 }
 
