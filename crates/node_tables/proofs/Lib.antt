@@ -8,3 +8,4 @@ pub mod Numbering
 pub mod ModeParts
 pub mod WholeTables
 pub mod PartRanges
+pub mod TestSets

@@ -1,6 +1,6 @@
 //! The images of the nodes of a small system, made from its plans.
 
-ghost use Rattle.std.specs.Prelude.{◌≡◌, ◌<◌, ◌∷◌, [], IfOk, codes, length};
+ghost use Rattle.std.specs.Prelude.{◌≡◌, ◌<◌, ◌∷◌, [], IfOk, IsTrue, codes, length};
 ghost use Rattle.app_graph.specs.Validation.{KeepsRules};
 ghost use Rattle.node_tables.specs.Parts.{AreSchedules};
 ghost use Rattle.node_tables.specs.TestPlans.{idle_mode, idle_schedule, loop_mode, loop_schedule, set_with};
@@ -186,23 +186,48 @@ fn has_image(
     Ok(out.bytes() == image)
 }
 
+/// Whether the loop's schedule is right.
+fn is_loop_right(set: &ModeSet, plans: &[Schedule]) -> bool
+    requires set { set.now ≡ set_with (loop_mode ∷ []) }
+    requires plans { plans.now ≡ loop_schedule ∷ [] }
+    ensures rules { KeepsRules set.now }
+    ensures right { IsTrue result → AreSchedules set.now plans.now }
+{
+    verify(set, 0, &plans[0]).is_ok()
+}
+
 /// Whether the images of the loop's three nodes are these.
 fn has_loop_images(alloc: Global, images: [&[u8]; 3]) -> Result<bool, AllocError> {
     let set = set_with(alloc, one(alloc, loop_mode(alloc)?)?)?;
     let plans = [loop_schedule(alloc)?];
-    if verify(&set, 0, &plans[0]).is_err() {
+    if !is_loop_right(&set, &plans) {
         return Ok(false);
     }
-    Ok(has_image(alloc, &set, &plans, 0, images[0])?
-        && has_image(alloc, &set, &plans, 1, images[1])?
-        && has_image(alloc, &set, &plans, 2, images[2])?)
+    let [first, second, third] = images;
+    let controller = has_image(alloc, &set, &plans, 0, first)?;
+    let sensor = has_image(alloc, &set, &plans, 1, second)?;
+    let actuator = has_image(alloc, &set, &plans, 2, third)?;
+    Ok(controller && sensor && actuator)
+}
+
+/// Whether the schedules of the loop and of the idle mode are right.
+fn are_both_right(set: &ModeSet, plans: &[Schedule]) -> bool
+    requires set { set.now ≡ set_with (loop_mode ∷ idle_mode ∷ []) }
+    requires plans { plans.now ≡ loop_schedule ∷ idle_schedule ∷ [] }
+    ensures rules { KeepsRules set.now }
+    ensures right { IsTrue result → AreSchedules set.now plans.now }
+{
+    if verify(set, 0, &plans[0]).is_err() {
+        return false;
+    }
+    verify(set, 1, &plans[1]).is_ok()
 }
 
 /// Whether this is node 1's image of the loop and the idle mode.
 fn has_two_modes_image(alloc: Global, image: &[u8]) -> Result<bool, AllocError> {
     let set = set_with(alloc, two(alloc, loop_mode(alloc)?, idle_mode(alloc)?)?)?;
     let plans = [loop_schedule(alloc)?, idle_schedule(alloc)?];
-    if verify(&set, 0, &plans[0]).is_err() || verify(&set, 1, &plans[1]).is_err() {
+    if !are_both_right(&set, &plans) {
         return Ok(false);
     }
     has_image(alloc, &set, &plans, 1, image)
