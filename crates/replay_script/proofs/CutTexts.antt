@@ -15,6 +15,7 @@ use Rattle.replay_script.specs.declared.fault.ScriptFault.{ScriptFault}
 use Rattle.replay_script.specs.declared.fault.ScriptFault.TheVariants.{TooMany}
 use Rattle.replay_script.specs.Script.{fault_behind, first_fault, steps}
 
+-- it is no line feed
 abbrev NotFeed : ℕ → Type 0
 NotFeed b = b ≢ 10
 
@@ -29,6 +30,7 @@ view (b ∷ bs) = elim (cases_eq b 10) [
   ]
 ]
 
+-- a text without a line feed is one line
 lines_alone : (text : List ℕ) → 0 < length text → All NotFeed text → lines text ≡ text ∷ []
 lines_alone [] some all = absurd (omega arith)
 lines_alone (b ∷ []) some all = ap (λ (f : Bool). cond f ((b ∷ []) ∷ lines []) (onto_first b (lines []))) (ne_eqb b 10 (all 0 b (omega arith)))
@@ -36,6 +38,7 @@ lines_alone (b ∷ d ∷ ds) some all =
     ap (λ (f : Bool). cond f ((b ∷ []) ∷ lines (d ∷ ds)) (onto_first b (lines (d ∷ ds)))) (ne_eqb b 10 (all 0 b (omega arith)))
     ∙ ap (onto_first b) (lines_alone (d ∷ ds) (omega arith) (λ k e below. all (suc k) e (omega arith)))
 
+-- one of three tests fails
 middle : (a b c : Bool) → b ≡ false → (a && b && c) ≡ false
 middle true false c e = refl
 middle false false c e = refl

@@ -32,16 +32,17 @@ abbrev pub lose_form : List (List ℕ) → Option Form
 lose_form [] = None
 lose_form (word ∷ words) = if list_all is_name (word ∷ words) then Some (Lose (word ∷ words)) else None
 
--- `request MODE` and `restart NODE`: one name
+-- `request MODE`: one name
 abbrev pub request_form : List (List ℕ) → Option Form
 request_form (word ∷ []) = if is_name word then Some (Request word) else None
 request_form words = None
 
+-- `restart NODE`: one name
 abbrev pub restart_form : List (List ℕ) → Option Form
 restart_form (word ∷ []) = if is_name word then Some (Restart word) else None
 restart_form words = None
 
--- the first word says which form it is; the words after it are as above
+-- the first word says which form it is, of which the words after it are
 abbrev pub words_form : List ℕ → List (List ℕ) → Option Form
 words_form first words =
     if bytes_eq first (codes "go") then go_form words
@@ -51,6 +52,7 @@ words_form first words =
     else if bytes_eq first (codes "restart") then restart_form words
     else None
 
+-- all words of a line, the first one included
 abbrev pub parts_form : List (List ℕ) → Option Form
 parts_form [] = None
 parts_form (first ∷ words) = words_form first words

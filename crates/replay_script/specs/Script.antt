@@ -25,10 +25,11 @@ content line = if has_feed line then take (length line - 1) line else line
 abbrev pub form : List ℕ → Option Form
 form line = line_form (content line)
 
--- the number of the node with a name, and of the mode
+-- the number of the node with a name
 abbrev pub node_of : ModeSet → List ℕ → Option ℕ
 node_of set name = position (bytes_eq name) set.nodes
 
+-- the number of the mode with a name
 abbrev pub mode_of : ModeSet → List ℕ → Option ℕ
 mode_of set name = position (λ m. bytes_eq name m.name) set.modes
 
@@ -49,7 +50,7 @@ steps_of (Lose names) = 0
 steps_of (Request name) = 0
 steps_of (Restart name) = 0
 
--- and a line of a text: the N of `go N`
+-- the Advances that a line of a text counts for: the N of `go N`
 abbrev pub steps : List ℕ → ℕ
 steps line = steps_of (asked line)
 
