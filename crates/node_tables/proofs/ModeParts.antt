@@ -1,10 +1,9 @@
 -- What a node keeps of a mode, out of its applications, is its part of the mode's plan
-use Rattle.std.proofs.Common.{◌≡◌, ℕ, zero, suc, ◌+◌, ◌-◌, ◌*◌, ◌/◌, ◌<◌, ◌≤◌, Bool, true, false, cond, not, ◌&&◌, ◌||◌, eqb, ltb, List, [], ◌∷◌, ◌++◌, length, get_or, map, filter, Contains, All, unsigned_abs, refl, sym, ◌∙◌, ap, subst, arith, ⊎_elim, inl, inr, ℤ, pos, ◌≤ℤ◌, append_assoc}
+use Rattle.std.proofs.Common.{◌≡◌, ℕ, suc, ◌+◌, ◌-◌, ◌<◌, ◌≤◌, Bool, true, false, cond, not, ◌&&◌, ◌||◌, eqb, ltb, List, [], ◌∷◌, ◌++◌, length, get_or, map, filter, Contains, All, refl, sym, ◌∙◌, ap, subst, arith, ℤ, pos, ◌≤ℤ◌}
 use Rattle.std.specs.List.{flat_map, list_any, AllByRecursion}
-use Rattle.std.proofs.lemmas.Bool.{cond-true, cond-false, cases_lt, eq-eqb, eqb-true, lt-ltb}
-use Rattle.std.proofs.lemmas.Int.{ints}
+use Rattle.std.proofs.lemmas.Bool.{eqb-true, lt-ltb}
 use Rattle.std.proofs.lemmas.List.{get_or-map, length-map, map-append}
-use Rattle.std.proofs.lemmas.List.Elements.{All-get_or, All-contains, All-from_recursion, Contains-get_or}
+use Rattle.std.proofs.lemmas.List.Elements.{All-get_or}
 use Rattle.std.proofs.lemmas.Grind.{flat_map-append}
 use Rattle.app_graph.specs.declared.mode_set.ModeSet.{ModeSet}
 use Rattle.app_graph.specs.declared.mode_set.App.{App}
@@ -13,18 +12,17 @@ use Rattle.app_graph.specs.declared.mode_set.Message.{Message}
 use Rattle.app_graph.specs.Validation.{KeepsRules}
 use Rattle.sched_model.specs.declared.rows.TaskRow.{TaskRow}
 use Rattle.sched_model.specs.declared.schedule.Schedule.{Schedule}
-use Rattle.sched_model.specs.Numbers.{below, has, natural}
-use Rattle.sched_model.specs.PlainMode.{PlainMode, PlainTask, PlainMessage, hyper, no_task, no_message, task_at, message_at, mode_at, plain_at}
+use Rattle.sched_model.specs.Numbers.{below, natural}
+use Rattle.sched_model.specs.PlainMode.{PlainMode, PlainMessage, hyper, no_message, task_at, message_at, mode_at, plain_at}
 use Rattle.sched_model.specs.ModeLimits.{IsLimited}
 use Rattle.sched_model.specs.RightSchedule.{IsMessage, IsSchedule, TableFits}
-use Rattle.sched_model.specs.Rounds.{round_start, opens}
-use Rattle.sched_model.specs.Rows.{TaskIn, MessageIn, no_app, tasks_in, messages_in, task_in, message_in, row_of, place_in, plain_message, ShowsTask, ShowsMessage}
+use Rattle.sched_model.specs.Rounds.{round_start}
+use Rattle.sched_model.specs.Rows.{TaskIn, MessageIn, no_app, tasks_in, messages_in, task_in, row_of, place_in, ShowsTask, ShowsMessage}
 use Rattle.sched_model.specs.TimeLimits.{HasTimes}
 use Rattle.sched_model.specs.ValidMode.{IsValid}
 use Rattle.sched_model.proofs.Graph.{message_edge}
 use Rattle.sched_model.proofs.KeptSets.{mode_at_valid}
 use Rattle.sched_model.proofs.LimitedModes.{mode_at_limited}
-use Rattle.sched_model.proofs.Lists.{flat_below-suc, length-below}
 use Rattle.sched_model.proofs.Passing.{all_by_place}
 use Rattle.sched_model.proofs.RowPlaces.{shows_task, shows_message, task_count, message_count}
 use Rattle.sched_model.proofs.Times.{times}
@@ -39,7 +37,7 @@ use Rattle.node_tables.specs.declared.tables.OwnTask.{OwnTask}
 use Rattle.node_tables.specs.declared.tables.OwnMessage.{OwnMessage}
 use Rattle.node_tables.specs.declared.tables.OwnRound.{OwnRound}
 use Rattle.node_tables.specs.declared.tables.OwnSlot.{OwnSlot}
-use Rattle.node_tables.specs.OwnParts.{row_in, rows_of, no_row, first_task, is_on, task_kept, task_part, tasks_kept, sent_from, role_of, role_in, message_kept, message_part, messages_kept, message_row, message_rows, no_message_row, first_message, release_in, slot_kept, slot_part, slots_kept, round_kept, rounds_kept, mode_kept}
+use Rattle.node_tables.specs.OwnParts.{row_in, rows_of, no_row, first_task, is_on, task_part, tasks_kept, sent_from, role_of, role_in, message_part, messages_kept, message_row, message_rows, no_message_row, first_message, release_in, slot_part, round_kept, rounds_kept}
 use Rattle.node_tables.specs.PartLimits.{FewSlots, HasSizes, IsMessageRow, IsTaskRow}
 use Rattle.node_tables.specs.Parts.{part_in, typed_task, typed_message, typed_slot, typed_round, typed_mode}
 use Rattle.node_tables.proofs.Numbering.{Numbered, numbered}
@@ -371,7 +369,7 @@ module _ (set : ModeSet) (i : ℕ) (keeps : KeepsRules set) (l : i < length set.
         let made = λ (per : ℕ). let y : OwnSlot = record { slot = c; message = n; release = release_in (get_or s.starts j (pos 0)) (get_or s.messages a (pos 0, pos 0)).0 per } in y in
         let per = (get_or mrows a no_message_row).period in
         ap (λ (z : ℕ). cond (ltb z (length mrows) && not (eqb (get_or mrows z no_message_row).role 0))
-          (let y : OwnSlot = record { slot = c; message = n; release = release_in (get_or s.starts j (pos 0)) (get_or s.messages z (pos 0, pos 0)).0 (get_or mrows z no_message_row).period } in y ∷ []) []) pl.is
+        (let y : OwnSlot = record { slot = c; message = n; release = release_in (get_or s.starts j (pos 0)) (get_or s.messages z (pos 0, pos 0)).0 (get_or mrows z no_message_row).period } in y ∷ []) []) pl.is
         ∙ ap (λ (b : Bool). cond (b && not (eqb (get_or mrows a no_message_row).role 0)) (made per ∷ []) []) (lt-ltb _ _ (omega (arith, pl.within, mrows_count)))
         ∙ ap (λ (z : ℕ). cond (not (eqb z 0)) (made per ∷ []) []) (ap (λ (x : MessageRow). x.role) (mrow_at a pl.within) ∙ role_same a pl.within)
         ∙ ap (λ (b : Bool). cond b (made per ∷ []) []) (own_test (eqb (sender_of p a) v) (takes_on p a v))
@@ -384,11 +382,11 @@ module _ (set : ModeSet) (i : ℕ) (keeps : KeepsRules set) (l : i < length set.
     slots_from j c (n ∷ table) h =
         flat_first (λ k. slot_part mrows s j (k + c) (get_or (n ∷ table) k 0)) (length table)
         ∙ ap (λ (x : List OwnSlot). x ++ flat_map (λ k. slot_part mrows s j (suc k + c) (get_or table k 0)) (below (length table)))
-          (ap (λ (z : ℕ). slot_part mrows s j z n) (let e : 0 + c ≡ c = omega arith in e) ∙ slot_same j c n h.0)
+        (ap (λ (z : ℕ). slot_part mrows s j z n) (let e : 0 + c ≡ c = omega arith in e) ∙ slot_same j c n h.0)
         ∙ ap (λ (x : List OwnSlot). map typed_slot (own_slot j c n) ++ x)
-          (flat_same (λ k. slot_part mrows s j (suc k + c) (get_or table k 0)) (λ k. slot_part mrows s j (k + suc c) (get_or table k 0)) (length table)
-            (λ k lk. ap (λ (z : ℕ). slot_part mrows s j z (get_or table k 0)) (let e : suc k + c ≡ k + suc c = omega arith in e))
-          ∙ slots_from j (suc c) table h.1)
+        (flat_same (λ k. slot_part mrows s j (suc k + c) (get_or table k 0)) (λ k. slot_part mrows s j (k + suc c) (get_or table k 0)) (length table)
+        (λ k lk. ap (λ (z : ℕ). slot_part mrows s j z (get_or table k 0)) (let e : suc k + c ≡ k + suc c = omega arith in e))
+        ∙ slots_from j (suc c) table h.1)
         ∙ sym (map-append typed_slot (own_slot j c n) (own_slots p v j (suc c) table))
 
     module _ (right : IsSchedule m (length s.starts) s) where

@@ -1,17 +1,17 @@
 -- The part of a node in right plans is in the ranges of the image
-use Rattle.std.proofs.Common.{◌≡◌, ℕ, zero, suc, ◌+◌, ◌-◌, ◌*◌, ◌/◌, ◌<◌, ◌≤◌, Bool, true, false, cond, not, ◌&&◌, ◌||◌, eqb, List, [], ◌∷◌, ◌++◌, length, get_or, map, filter, Contains, All, refl, sym, ◌∙◌, ap, subst, arith, ℤ, pos, negsuc, ◌+ℤ◌, ◌≤ℤ◌, ◌<ℤ◌, length-append}
-use Rattle.std.specs.List.{flat_map, AllByRecursion, list_any}
+use Rattle.std.proofs.Common.{◌≡◌, ℕ, zero, suc, ◌+◌, ◌*◌, ◌<◌, ◌≤◌, Bool, true, false, cond, ◌||◌, eqb, List, [], ◌∷◌, ◌++◌, length, get_or, map, filter, Contains, All, refl, sym, ◌∙◌, ap, subst, arith, pos, negsuc, ◌≤ℤ◌, ◌<ℤ◌, length-append}
+use Rattle.std.specs.List.{flat_map, AllByRecursion}
 use Rattle.std.proofs.lemmas.Int.{ints}
 use Rattle.std.proofs.lemmas.List.{length-map, get_or-map}
 use Rattle.std.proofs.lemmas.List.Elements.{All-get_or, All-contains}
 use Rattle.app_graph.specs.declared.mode_set.ModeSet.{ModeSet}
 use Rattle.app_graph.specs.Validation.{KeepsRules}
 use Rattle.sched_model.specs.declared.schedule.Schedule.{Schedule}
-use Rattle.sched_model.specs.Numbers.{below, has, natural}
+use Rattle.sched_model.specs.Numbers.{below, natural}
 use Rattle.sched_model.specs.PlainMode.{PlainMode, PlainMessage, hyper, no_message, task_at, message_at, plain_at}
 use Rattle.sched_model.specs.ModeLimits.{IsLimited}
 use Rattle.sched_model.specs.RightSchedule.{IsMessage, IsSchedule, TableFits}
-use Rattle.sched_model.specs.Rounds.{round_start, opens, closes}
+use Rattle.sched_model.specs.Rounds.{round_start}
 use Rattle.sched_model.specs.TimeLimits.{HasTimes, IsTime}
 use Rattle.sched_model.specs.ValidMode.{IsValid}
 use Rattle.sched_model.proofs.Graph.{contains_has, message_edge}
@@ -27,12 +27,10 @@ use Rattle.runtime_model.specs.Packets.{sender_of, takes_on}
 use Rattle.runtime_model.specs.Placement.{release}
 use Rattle.runtime_model.specs.Plans.{Plan, RightPlan, Carried, offset, node_of, place_from, no_schedule, plan_of, plans_of}
 use Rattle.runtime_model.specs.Timeline.{steady}
-use Rattle.runtime_model.proofs.Times.{natural_is, place_is, is_release, slot_window, window_is, round_from_zero}
+use Rattle.runtime_model.proofs.Times.{natural_is, place_is, is_release, slot_window, window_is}
 use Rattle.node_tables.specs.declared.tables.OwnTask.{OwnTask}
 use Rattle.node_tables.specs.declared.tables.OwnMessage.{OwnMessage}
-use Rattle.node_tables.specs.declared.tables.OwnRound.{OwnRound}
-use Rattle.node_tables.specs.declared.tables.OwnSlot.{OwnSlot}
-use Rattle.node_tables.specs.Fields.{Field, AreInRange, IsInRange, Short}
+use Rattle.node_tables.specs.Fields.{AreInRange, IsInRange}
 use Rattle.node_tables.specs.Image.{slot_fields, round_fields, task_field, message_fields, task_fields, mode_fields}
 use Rattle.node_tables.specs.Image as images
 use Rattle.node_tables.specs.Parts.{AreSchedules, part_in, typed_task, typed_message, typed_slot, typed_round, typed_mode, typed_table}
@@ -172,9 +170,16 @@ module _ (set : ModeSet) (i : ℕ) (keeps : KeepsRules set) (l : i < length set.
       let pl : length (numbers p msg.from) ≡ length msg.from = length-map msg.from (λ a. (task_at m a).number) in
       let cl : length (numbers p (filter on msg.to)) ≡ length (filter on msg.to) = length-map (filter on msg.to) (λ a. (task_at m a).number) in
       let from_all = task_numbers m msg.from (contained_all _ msg.from (λ a c. task_number a (from_task j a h c))) in
-      let to_all = task_numbers m (filter on msg.to) (filter_all (λ a. (task_at m a).number ≤ 1023) on msg.to (contained_all _ msg.to (λ b c. task_number b (to_task j b h c)))) in
-      ((omega arith, message_number j h), ((role.0, role.1), ((omega (arith, pl, a.1.1), omega (arith, pl, few_ends.0)),
-      all_both IsInRange (flat_map task_field (numbers p msg.from)) _ from_all ((omega arith, omega (arith, cl, filter_length on msg.to, few_ends.1)), to_all))))
+      let to_all = task_numbers m (filter on msg.to) (filter_all (λ a. (task_at m a).number ≤ 1023) on msg.to (contained_all _ msg.to (λ b c. task_number b (to_task j b h c)))) in (
+        (omega arith, message_number j h),
+        (
+          (role.0, role.1),
+          (
+            (omega (arith, pl, a.1.1), omega (arith, pl, few_ends.0)),
+            all_both IsInRange (flat_map task_field (numbers p msg.from)) _ from_all ((omega arith, omega (arith, cl, filter_length on msg.to, few_ends.1)), to_all),
+          ),
+        ),
+      )
 
   messages_range : AreInRange (flat_map message_fields (map typed_message (own_messages p v)))
   messages_range =
@@ -247,9 +252,13 @@ module _ (set : ModeSet) (i : ℕ) (keeps : KeepsRules set) (l : i < length set.
       let z = natural_is (round_start s j) t.0 in
       let e = hyper_bound j h in
       let f = (All-get_or (TableFits m) s.tables j [] (omega (arith, h, right.shape.tables)) right.s7.tables).slots in
-      let table = get_or s.tables j [] in
-      ((omega (arith, ints), omega (arith, ints, z, e, ok.hyper_limit)), ((omega arith, omega (arith, slots_few j table 1, f, lim.slots)),
-      slots_range j h table 1 (omega arith) (omega (arith, f, lim.slots)) (λ n c. c)))
+      let table = get_or s.tables j [] in (
+        (omega (arith, ints), omega (arith, ints, z, e, ok.hyper_limit)),
+        (
+          (omega arith, omega (arith, slots_few j table 1, f, lim.slots)),
+          slots_range j h table 1 (omega arith) (omega (arith, f, lim.slots)) (λ n c. c),
+        ),
+      )
 
   rounds_range : AreInRange (flat_map round_fields (map typed_round (own_rounds p v)))
   rounds_range =
@@ -261,10 +270,22 @@ module _ (set : ModeSet) (i : ℕ) (keeps : KeepsRules set) (l : i < length set.
 
   pub mode_range : (first : ℕ) → 1 ≤ first → first ≤ 2048 → AreInRange (mode_fields (typed_mode (part_in first v p)))
   mode_range first some most =
-      let r = rounds_few set i keeps l s right in
-      ((omega (arith, ints, hyper_some m), omega (arith, ints, ok.hyper_limit)), ((some, most), ((omega (arith, rounds_count, right.shape.some), omega (arith, rounds_count, r)), ((omega arith, tasks_few),
-      all_both IsInRange (flat_map task_fields (map typed_task (own_tasks p v))) _ tasks_range ((omega arith, messages_few),
-      all_both IsInRange (flat_map message_fields (map typed_message (own_messages p v))) _ messages_range rounds_range)))))
+      let r = rounds_few set i keeps l s right in (
+        (omega (arith, ints, hyper_some m), omega (arith, ints, ok.hyper_limit)),
+        (
+          (some, most),
+          (
+            (omega (arith, rounds_count, right.shape.some), omega (arith, rounds_count, r)),
+            (
+              (omega arith, tasks_few),
+              all_both IsInRange (flat_map task_fields (map typed_task (own_tasks p v))) _ tasks_range (
+                (omega arith, messages_few),
+                all_both IsInRange (flat_map message_fields (map typed_message (own_messages p v))) _ messages_range rounds_range,
+              ),
+            ),
+          ),
+        ),
+      )
 
 -- ---- all modes
 
@@ -297,13 +318,20 @@ part_range set schedules v keeps plans here =
     let len : length ps ≡ n = length-map (below n) (plan_of set schedules) ∙ length-below n in
     let few = few_modes set keeps in
     let each = λ (j : ℕ) (h : j < length ps).
-        let l : j < n = omega (arith, h, len) in
-        let s = get_or schedules j no_schedule in
-        let is : get_or ps j no_plan ≡ plan_of set schedules j = get_or-map_below (plan_of set schedules) n j no_plan l in
-        let at : InPlace v (plan_of set schedules j) = record {
-            rounds = rounds_few set j keeps l s (plans.right j l);
-            range = λ first some most. mode_range set j keeps l (omega (arith, l, few)) s (plans.right j l) v first some most;
-        } in
-        subst (λ (p : Plan). InPlace v p) (sym is) at in
-    ((omega arith, omega arith), ((omega arith, omega (arith, here, few_nodes set keeps)), ((omega (arith, mode_count v ps 1, len, some_mode set keeps), omega (arith, mode_count v ps 1, len, few)),
-    modes_range v ps 0 1 (omega (arith, len, few)) (omega arith) (omega arith) each)))
+    let l : j < n = omega (arith, h, len) in
+    let s = get_or schedules j no_schedule in
+    let is : get_or ps j no_plan ≡ plan_of set schedules j = get_or-map_below (plan_of set schedules) n j no_plan l in
+    let at : InPlace v (plan_of set schedules j) = record {
+      rounds = rounds_few set j keeps l s (plans.right j l);
+      range = λ first some most. mode_range set j keeps l (omega (arith, l, few)) s (plans.right j l) v first some most;
+    } in
+    subst (λ (p : Plan). InPlace v p) (sym is) at in (
+      (omega arith, omega arith),
+      (
+        (omega arith, omega (arith, here, few_nodes set keeps)),
+        (
+          (omega (arith, mode_count v ps 1, len, some_mode set keeps), omega (arith, mode_count v ps 1, len, few)),
+          modes_range v ps 0 1 (omega (arith, len, few)) (omega arith) (omega arith) each,
+        ),
+      ),
+    )

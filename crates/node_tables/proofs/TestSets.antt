@@ -1,5 +1,5 @@
 -- The mode sets and schedules of the tests keep the rules and have their modes' shapes
-use Rattle.std.proofs.Common.{◌≡◌, ℕ, zero, suc, ◌+◌, ◌<◌, codes, List, [], ◌∷◌, length, get_or, All, Contains, refl, sym, ◌∙◌, ap, subst, arith, ℤ, pos}
+use Rattle.std.proofs.Common.{◌≡◌, ℕ, zero, suc, ◌<◌, codes, List, [], ◌∷◌, length, get_or, All, Contains, refl, sym, ◌∙◌, ap, subst, arith, ℤ, pos}
 use Rattle.std.specs.Prelude.{Bool, Result, Ok, Err, IsTrue, OnOk}
 use Rattle.std.specs.Result.{is_ok}
 use Rattle.std.proofs.lemmas.Int.{ints}
@@ -13,7 +13,7 @@ use Rattle.app_graph.specs.Hyperperiod.{hyperperiod}
 use Rattle.app_graph.specs.Validation.{KeepsRules}
 use Rattle.sched_model.specs.declared.schedule.Schedule.{Schedule}
 use Rattle.sched_model.specs.PlainMode.{plain_at}
-use Rattle.sched_model.specs.RightSchedule.{HasShape, IsMessage, IsSchedule}
+use Rattle.sched_model.specs.RightSchedule.{HasShape, IsSchedule}
 use Rattle.sched_model.specs.TimeLimits.{HasTimes, IsTime}
 use Rattle.runtime_model.specs.Plans.{no_schedule}
 use Rattle.node_tables.specs.Parts.{AreSchedules}

@@ -1,6 +1,6 @@
 -- A node's part of one mode out of the mode's applications and its schedule. Tasks and messages of a mode have numbers that follow
 -- each other, so that a number less the first one is a place
-use Rattle.std.specs.Prelude.{ℕ, suc, ◌+◌, ◌-◌, Bool, false, cond, not, ◌&&◌, nat_eq, nat_lt, List, [], ◌∷◌, length, map, filter, slice_index_or, unsigned_abs, ℤ, pos, ◌-ℤ◌, ◌*ℤ◌}
+use Rattle.std.specs.Prelude.{ℕ, ◌+◌, ◌-◌, Bool, false, cond, not, ◌&&◌, nat_eq, nat_lt, List, [], ◌∷◌, length, map, filter, slice_index_or, unsigned_abs, ℤ, pos, ◌-ℤ◌, ◌*ℤ◌}
 use Rattle.std.specs.Int.{int_div_euclid}
 use Rattle.std.specs.List.{flat_map, list_any}
 use Rattle.app_graph.specs.declared.mode_set.App.{App}

@@ -1,5 +1,5 @@
 -- The mode sets and schedules of the tests
-use Rattle.std.specs.Prelude.{◌≡◌, codes, List, [], ◌∷◌, pos}
+use Rattle.std.specs.Prelude.{codes, List, [], ◌∷◌, pos}
 use Rattle.app_graph.specs.declared.mode_set.ModeSet.{ModeSet}
 use Rattle.app_graph.specs.declared.mode_set.Mode.{Mode}
 use Rattle.sched_model.specs.declared.schedule.Schedule.{Schedule}

@@ -1,7 +1,7 @@
-use Rattle.std.proofs.Common.{sym, ap, subst, arith, length, []}
+use Rattle.std.proofs.Common.{sym, subst}
 use Rattle.app_graph.specs.declared.mode_set.ModeSet.{ModeSet}
 use Rattle.app_graph.specs.Validation.{KeepsRules}
-use Rattle.node_tables.proofs.TestSets.{both_kept, loop_shape, idle_shape, loop_times, idle_times, both_plans, first_is, second_is, passed, right_at, shape_in, times_in}
+use Rattle.node_tables.proofs.TestSets.{both_kept}
 use Rattle.node_tables.proofs.part_tests.are_both_right.Goals as goal
 
 pub verify-requires-clause-rules : goal.verify-requires-clause-rules

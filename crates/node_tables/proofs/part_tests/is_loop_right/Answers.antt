@@ -20,5 +20,5 @@ returns c = record {
   right = λ t.
       loop_plans c.args.set.now c.args.plans.now c.requires.set c.requires.plans
       (right_at c.args.set.now 0 c.args.plans.now c.index-plans-0.result (omega (arith, ap length c.requires.plans)) c.index-plans-0.is
-        (passed c.verify.result c.is_ok.result _ c.is_ok.ensures.value c.verify.ensures.ok t));
+      (passed c.verify.result c.is_ok.result _ c.is_ok.ensures.value c.verify.ensures.ok t));
 }

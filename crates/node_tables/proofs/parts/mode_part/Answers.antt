@@ -1,8 +1,8 @@
-use Rattle.std.proofs.Common.{rules, ◌≡◌, ℕ, List, length, All, sym, ◌∙◌, ap, subst, arith, ℤ, w64, to_z, of_z, FitsSigned}
-use Rattle.std.proofs.lemmas.Int.{ints, to_z-of_z}
+use Rattle.std.proofs.Common.{rules, ◌≡◌, List, length, All, sym, ◌∙◌, ap, subst, arith, ℤ, w64, to_z, of_z, FitsSigned}
+use Rattle.std.proofs.lemmas.Int.{to_z-of_z}
 use Rattle.app_graph.specs.declared.mode_set.App.{App}
 use Rattle.sched_model.specs.declared.rows.TaskRow.{TaskRow}
-use Rattle.sched_model.specs.PlainMode.{mode_at, plain_at}
+use Rattle.sched_model.specs.PlainMode.{mode_at}
 use Rattle.node_tables.specs.declared.rows.MessageRow.{MessageRow}
 use Rattle.node_tables.specs.OwnParts.{rows_of, tasks_kept, messages_kept, message_rows, rounds_kept}
 use Rattle.node_tables.specs.PartLimits.{HasSizes, IsTaskRow, IsMessageRow}
@@ -44,8 +44,8 @@ returns c =
     let one = c.as_slice.ensures.value ∙ c.in_ok-tasks.ensures ∙ ap rows_of c.apps_of-apps.ensures in
     let two = c.as_slice-2.ensures.value ∙ c.in_ok-tasks.ensures ∙ ap rows_of c.apps_of-apps.ensures in
     let three = c.as_slice-4.ensures.value ∙ c.in_ok-messages.ensures.rows
-        ∙ ap (λ (r : List TaskRow). message_rows r c.args.node c.apps_of-apps.result.now) one
-        ∙ ap (λ (a : List App). message_rows (rows_of apps) c.args.node a) c.apps_of-apps.ensures in
+    ∙ ap (λ (r : List TaskRow). message_rows r c.args.node c.apps_of-apps.result.now) one
+    ∙ ap (λ (a : List App). message_rows (rows_of apps) c.args.node a) c.apps_of-apps.ensures in
     mode_same c.args.set.now c.args.mode c.requires.rules c.requires.mode c.args.node c.args.schedule.now c.requires.right c.args.first_round
     (to_z w64 (of_z w64 c.hyper.result)) c.from_vec.result c.from_vec-2.result c.from_vec-3.result
     (to_z-of_z w64 c.hyper.result f ∙ c.hyper.ensures)

@@ -1,4 +1,4 @@
-use Rattle.std.proofs.Common.{◌≡◌, ◌<◌, ◌≤◌, List, length, ap, sym, subst, ◌∙◌, arith, map}
+use Rattle.std.proofs.Common.{◌≡◌, List, length, ap, sym, subst, ◌∙◌, arith, map}
 use Rattle.runtime_model.specs.NodeTables.{mode_tables, part_of}
 use Rattle.runtime_model.specs.Plans.{plans_of}
 use Rattle.sched_model.proofs.TaskNumbers.{few_modes}
@@ -37,6 +37,6 @@ returns c =
     let made = λ (x : List ModeTable). let t : NodeTable = record { node = c.args.node; modes = x } in t in
     let e : made c.from_vec.result ≡ typed_table part = ap made
     (c.from_vec.ensures ∙ parts_end c.args.set.now c.args.plans.now c.args.node c.loop-mode.mode c.loop-mode.first_round c.loop-mode.modes.items whole
-        (omega (arith, c.loop-mode-test.false, ap length c.as_slice-mode-end.ensures)) c.loop-mode.invariant.modes) in
+    (omega (arith, c.loop-mode-test.false, ap length c.as_slice-mode-end.ensures)) c.loop-mode.invariant.modes) in
     let range = part_range c.args.set.now c.args.plans.now c.args.node c.requires.rules c.requires.schedules c.requires.node in
     record { exact = e; part = ap plain_table e ∙ plain_typed part; in_range = subst (λ (t : NodeTable). IsInRange t) (sym e) range }
