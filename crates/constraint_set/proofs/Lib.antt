@@ -4,3 +4,4 @@ mod BaseLists
 mod Bounded
 mod Loadings
 mod TableLemmas
+mod TestSets

@@ -1,9 +1,12 @@
 -- Decisions in code and in the constraint problem
-use Rattle.std.specs.Prelude.{◌≡◌, ℕ, ◌+◌, ◌-◌, ◌%◌, ◌<◌, ◌≤◌, List, [], ◌∷◌, ◌++◌, length, slice_index_or, Bool, false, cond, nat_eq, ℤ}
+use Rattle.std.specs.Prelude.{◌≡◌, ℕ, ◌+◌, ◌-◌, ◌%◌, ◌<◌, ◌≤◌, List, [], ◌∷◌, ◌++◌, length, slice_index_or, Bool, false, cond, nat_eq, Contains, ℤ, pos, ◌≤ℤ◌}
+use Rattle.round_service.specs.Serving.{most_choice}
+use Rattle.sched_model.specs.PlainMode.{PlainMode, task_at}
+use Rattle.constraint_set.specs.Numbers.{numbers_at}
 use Rattle.sched_model.specs.Numbers.{natural}
 use Rattle.constraint_set.specs.declared.decisions.Choice.{Choice}
 use Rattle.constraint_set.specs.declared.decisions.Choice.TheVariants.{Serve, Order}
-use Rattle.sched_model.specs.ConstraintProblem.{Decision, serve, order, load_of}
+use Rattle.sched_model.specs.ConstraintProblem.{Decision, serve, order, places, load_of}
 
 -- the decision of the constraint problem
 abbrev pub decision_of : Choice → Decision
@@ -35,3 +38,8 @@ NamesNone r d v = (q : ℕ) → q < r → names_round r q d v ≡ false
 abbrev pub LoadsGrow : Type 0
 LoadsGrow = (r q : ℕ) (ds : List Decision) (p : List ℤ) (v : ℤ) → length p < length ds →
     load_of r q ds (p ++ v ∷ []) ≡ load_of r q ds p + cond (names_round r q (slice_index_or ds (length p) (order 0 0)) v) 1 0
+
+-- v may be chosen for the decision: a round instance that an instance of the message can have, or a place of the two tasks
+abbrev pub MayChoose : PlainMode → ℕ → Decision → ℤ → Type 0
+MayChoose m r (serve i k) v = (pos 1 ≤ℤ v) × (v ≤ℤ pos (most_choice (numbers_at m r i)))
+MayChoose m r (order a b) v = Contains (places (task_at m a) (task_at m b)) v

@@ -1,6 +1,6 @@
 //! The alternatives of a decision, and the constraints that a choice adds.
 
-ghost use Rattle.std.specs.Prelude.{◌≡◌, [], ◌+◌, ◌-◌, ◌<◌, ◌≤◌, Contains, length, slice_index_or, pos, ◌+ℤ◌, ◌-ℤ◌, ◌≤ℤ◌};
+ghost use Rattle.std.specs.Prelude.{◌≡◌, ℕ, [], ◌+◌, ◌-◌, ◌<◌, ◌≤◌, Contains, length, slice_index_or, pos, ◌+ℤ◌, ◌-ℤ◌, ◌≤ℤ◌};
 ghost use Rattle.sched_model.specs.Numbers.{span};
 ghost use Rattle.sched_model.specs.PlainMode.{hyper, instance_count, message_at, task_at};
 ghost use Rattle.sched_model.specs.ConstraintProblem.{alternatives_of, chosen, decisions, order, places, serve};
@@ -9,7 +9,7 @@ ghost use Rattle.sched_model.specs.ModeLimits.{IsLimited};
 ghost use Rattle.sched_model.specs.ValidMode.{IsValid};
 ghost use Rattle.round_service.specs.Serving.{most_choice};
 ghost use Rattle.constraint_set.specs.Numbers.{numbers_at, times_at};
-ghost use Rattle.constraint_set.specs.Decided.{decision_of};
+ghost use Rattle.constraint_set.specs.Decided.{MayChoose, decision_of};
 
 use crate::base::{closes_var, opens_var};
 use crate::decisions::Choice;
@@ -197,6 +197,30 @@ pub(crate) fn diffs_at(
     ensures { result ≡ chosen mode.now rounds (decision_of choice) (slice_index_or prefix.now at (pos 0)) }
 {
     let value = prefix[at];
+    match choice {
+        Choice::Serve(message, instance) => instance_diffs(
+            mode, rounds, ticks, message, instance, value,
+        ),
+        Choice::Order(first, second) => pair_diffs(mode, rounds, first, second, value),
+    }
+}
+
+/// The two constraints of a choice for a decision.
+pub(crate) fn diffs_of(
+    mode: &FlatMode,
+    rounds: u32,
+    ticks: u64,
+    choice: Choice,
+    value: i64,
+) -> [Diff; 2]
+    requires limits { IsLimited mode.now }
+    requires valid { IsValid mode.now }
+    requires rounds { (1 ≤ rounds) × (rounds ≤ 256) }
+    requires ticks { ticks ≡ hyper mode.now }
+    requires decision { (at : ℕ) × (at < length (decisions mode.now)) × (decision_of choice ≡ slice_index_or (decisions mode.now) at (order 0 0)) }
+    requires value { MayChoose mode.now rounds (decision_of choice) value }
+    ensures { result ≡ chosen mode.now rounds (decision_of choice) value }
+{
     match choice {
         Choice::Serve(message, instance) => instance_diffs(
             mode, rounds, ticks, message, instance, value,

@@ -11,5 +11,7 @@ pub mod laws;
 mod loads;
 mod problem;
 mod schedule;
+#[cfg(test)]
+mod tests;
 
 pub use problem::Problem;

@@ -10,10 +10,10 @@ ghost use Rattle.sched_model.specs.ProblemLimits.{ProblemFits};
 ghost use Rattle.sched_model.specs.ValidMode.{IsValid};
 ghost use Rattle.sched_model.specs.PrintedSchedule.{schedule_of};
 ghost use Rattle.tick_num.specs.Differences.{listed};
-ghost use Rattle.constraint_set.specs.Decided.{AllRoom, FirstOver, NamesNone, NamesRound};
+ghost use Rattle.constraint_set.specs.Decided.{AllRoom, FirstOver, MayChoose, NamesNone, NamesRound};
 
 use crate::base::make_base;
-use crate::choices::{alternatives_at, diffs_at};
+use crate::choices::{alternatives_at, diffs_at, diffs_of};
 use crate::decisions::{Decisions, make_decisions};
 use crate::flat::{FlatMode, flatten};
 use crate::loads::{first_overfull, round_named};
@@ -138,6 +138,16 @@ impl Problem {
         let last = prefix.len() - 1;
         let choice = self.decisions.at(last);
         diffs_at(&self.mode, self.rounds, self.ticks, choice, prefix, last)
+    }
+
+    /// The two constraints that the choice `value` adds for the decision at the place `at`, whichever the others are.
+    pub fn chosen_diffs(&self, at: usize, value: i64) -> [Diff; 2]
+        requires at { at < length (decisions self.now.mode) }
+        requires value { MayChoose self.now.mode self.now.rounds (slice_index_or (decisions self.now.mode) at (order 0 0)) value }
+        ensures { result ≡ chosen self.now.mode self.now.rounds (slice_index_or (decisions self.now.mode) at (order 0 0)) value }
+    {
+        let choice = self.decisions.at(at);
+        diffs_of(&self.mode, self.rounds, self.ticks, choice, value)
     }
 
     /// The first round, from 1, that these choices name more often than it has slots; None exactly where there is none.
