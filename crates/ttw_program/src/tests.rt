@@ -357,3 +357,36 @@ fn longest_plan(rt: HostRuntime) -> Result<(), Fail> {
     assert_eq!(rt; text.as_slice(), b"plan: too long\n".as_slice());
     Ok(())
 }
+
+/// Two modes, each with one task on a node of its own.
+const PAIR: &str =
+    "slots = 1\nround = 20\ngap = 100\nhost = \"n0\"\nnodes = [\"n0\", \"n2\"]\n[[mode]]\nname = \"a\"\n[[mode.app]]\nname = \"first\"\nperiod = 100\ndeadline = 100\n[[mode.app.task]]\nname = \"x\"\nnode = \"n2\"\nwcet = 1\n[[mode]]\nname = \"b\"\n[[mode.app]]\nname = \"second\"\nperiod = 100\ndeadline = 100\n[[mode.app.task]]\nname = \"y\"\nnode = \"n2\"\nwcet = 1\n";
+
+#[test]
+fn two_modes_plan(rt: HostRuntime) -> Result<(), Fail> {
+    let plan =
+        "ttw 1\nmode a\nschedule 1\nstart 0\ntask x 0\ntable 1\nmode b\nschedule 1\nstart 0\ntask y 0\ntable 1\nend\n";
+    assert!(rt; plans(rt.alloc(), PAIR, "2", (Status::Done, plan))?);
+    Ok(())
+}
+
+#[test]
+fn refused_mode_files(rt: HostRuntime) -> Result<(), Fail> {
+    let alloc = rt.alloc();
+    let copies = PAIR.replace(alloc, "wcet = 1", "wcet = 1\ncopies = 1")?;
+    let line = "modes: unknown key copies\n";
+    assert!(rt; plans(alloc, copies.as_str(), "2", (Status::ModeFile, line))?);
+    let wide = BLINK.replace(alloc, "round = 10\ngap = 40", "round = 30\ngap = 20")?;
+    let line = "modes: out of range gap\n";
+    assert!(rt; plans(alloc, wide.as_str(), "2", (Status::ModeFile, line))?);
+    let mut round = LOOP.to_string(alloc)?;
+    round.push_str("[[mode.app.message]]\nname = \"m3\"\nfrom = [\"act\"]\nto = [\"sense\"]\n")?;
+    let line = "modes: cycle loop\n";
+    assert!(rt; plans(alloc, round.as_str(), "2", (Status::ModeFile, line))?);
+    let senders = LOOP.replace(alloc, "from = [\"sense\"]", "from = [\"sense\", \"ctrl\"]")?;
+    let line = "modes: two senders m1\n";
+    assert!(rt; plans(alloc, senders.as_str(), "2", (Status::ModeFile, line))?);
+    assert!(rt; plans(alloc, "", "2", (Status::ModeFile, "modes: missing slots\n"))?);
+    assert!(rt; plans(alloc, "x = ", "2", (Status::ModeFile, "modes: not TOML\n"))?);
+    Ok(())
+}
