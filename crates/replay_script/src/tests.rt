@@ -92,7 +92,7 @@ const ALL_NODES: [&str; 64] = [
     "n54", "n55", "n56", "n57", "n58", "n59", "n60", "n61", "n62", "n63",
 ];
 
-/// One script in each row, in which `|` stands for a line feed; behind the `=` stands what it gives, each line and each fault behind a space.
+/// One script in each row, in which `|` stands for a line feed; behind the `=` stands what it gives, each line and each fault behind a space: a request as its mode, a restart as its node.
 const SCRIPTS: &str = "=
 |=
 |||=
@@ -148,15 +148,15 @@ lose run= unknown line 1
 lose n= unknown line 1
 lose n11= unknown line 1
 lose abcdefghijklmnopqrstuvwxyz_01234= unknown line 1
-request run= request 0
-request idle|= request 1
+request run= mode 0
+request idle|= mode 1
 request= bad line 1
 request run idle= bad line 1
 request Run= bad line 1
 request n1= unknown line 1
 request ru= unknown line 1
-restart n1= restart 1
-restart n2|restart n2|= restart 2 restart 2
+restart n1= node 1
+restart n2|restart n2|= node 2 node 2
 restart n1 n2= bad line 1
 restart n0 n9= bad line 1
 restart n9= unknown line 1
@@ -187,8 +187,8 @@ fn tell_line(line: Line, out: &mut Out) -> Result<(), AllocError> {
         Line::Go(steps) => tell("go", steps, out),
         Line::UntilBeacon => out.put(b" until beacon"),
         Line::Lose(nodes) => tell("lose", nodes, out),
-        Line::Request(mode) => tell("request", u64::from(mode), out),
-        Line::Restart(node) => tell("restart", u64::from(node), out),
+        Line::Request(mode) => tell("mode", u64::from(mode), out),
+        Line::Restart(node) => tell("node", u64::from(node), out),
     }
 }
 
