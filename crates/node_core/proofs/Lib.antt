@@ -6,3 +6,4 @@ pub mod RowsComputed
 pub mod SearchLemmas
 pub mod KeptLimits
 pub mod RegisterRules
+pub mod PartLimits

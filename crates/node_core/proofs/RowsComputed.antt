@@ -1,7 +1,12 @@
 -- The worked rows, by computing
 use Rattle.std.proofs.Common.{refl}
 use Rattle.node_core.specs.Registers.{no_outs, no_ins}
-use Rattle.node_core.specs.Rows.{Misses, SenseRuns, ControlSends, TakesAPacket, ActRuns, OtherModeEmpties, DrainEmpties, DrainPlaces, FourProducers}
+use Rattle.sched_model.specs.PlainMode.{hyper}
+use Rattle.node_core.specs.Rows.{TablesAreParts, Misses, SenseRuns, ControlSends, TakesAPacket, ActRuns, OtherModeEmpties, DrainEmpties, DrainPlaces, FourProducers}
+
+pub tables_are_parts : TablesAreParts
+unfolding hyper
+tables_are_parts = (refl, refl)
 
 pub misses : Misses
 misses = (refl, refl, refl, refl, refl)

@@ -1,8 +1,14 @@
 -- Laws of the rules of nodes
-use Rattle.std.specs.Prelude.{◌≡◌, ℕ, ◌<◌, Bool, true, cond, ◌&&◌, nat_eq, List, All, Some, None, is_some, ℤ}
+use Rattle.std.specs.Prelude.{◌≡◌, ℕ, ◌<◌, Bool, true, cond, ◌&&◌, nat_eq, List, length, All, Some, None, is_some, ℤ}
+use Rattle.app_graph.specs.declared.mode_set.ModeSet.{ModeSet}
+use Rattle.app_graph.specs.Validation.{KeepsRules}
+use Rattle.sched_model.specs.declared.schedule.Schedule.{Schedule}
+use Rattle.runtime_model.specs.NodeTables.{part_of}
+use Rattle.runtime_model.specs.Plans.{plans_of}
 use Rattle.beacon_codec.specs.declared.packet.Beacon.{Beacon}
 use Rattle.node_tables.specs.declared.tables.NodeTable.{NodeTable}
 use Rattle.node_tables.specs.declared.tables.OwnMessage.{OwnMessage}
+use Rattle.node_tables.specs.Parts.{AreSchedules, typed_table}
 use Rattle.node_core.specs.declared.packet.Packet.{Packet}
 use Rattle.node_core.specs.Lookup.{consumer_place}
 use Rattle.node_core.specs.Registers.{out_of, register_of}
@@ -35,3 +41,7 @@ pub record RegistersByRules : Type 0 where
       → (b : ℕ) → All (λ x. register_of (received n slot packet).registers.ins b x ≡ cond (nat_eq x.number m.number && consumes b x) (Some packet.values) (register_of n.registers.ins b x)) (mode_of n).messages
   pub starting : (n : RunningNode) (task : ℕ) (numbers : List ℤ) → NodeFits n → starts n task ≡ true
       → (b : ℕ) → All (λ x. register_of (started n task numbers).registers.ins b x ≡ cond (nat_eq b task) None (register_of n.registers.ins b x)) (mode_of n).messages
+
+-- the part of each node in right plans is within the limits of a table
+abbrev pub PartsFit : Type 0
+PartsFit = (set : ModeSet) (schedules : List Schedule) (v : ℕ) → KeepsRules set → AreSchedules set schedules → v < length set.nodes → TableFits (typed_table (part_of (plans_of set schedules) v))

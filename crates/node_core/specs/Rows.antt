@@ -3,9 +3,14 @@
 use Rattle.std.specs.Prelude.{◌≡◌, ℕ, true, false, List, [], ◌∷◌, slice_set, Some, None, ℤ, pos, negsuc}
 use Rattle.beacon_codec.specs.declared.packet.Beacon.{Beacon}
 use Rattle.task_body.specs.Tally.{first_numbers}
+use Rattle.runtime_model.specs.NodeTables.{part_of}
+use Rattle.runtime_model.specs.Plans.{plans_of}
 use Rattle.node_tables.specs.declared.tables.NodeTable.{NodeTable}
 use Rattle.node_tables.specs.declared.tables.ModeTable.{ModeTable}
 use Rattle.node_tables.specs.declared.tables.OwnTask.{OwnTask}
+use Rattle.node_tables.specs.Parts.{typed_table}
+use Rattle.node_tables.specs.TestPlans.{loop_mode, loop_schedule, idle_schedule, set_with}
+use Rattle.node_tables.specs.TestPlans as plans_of_tests
 use Rattle.node_core.specs.Registers.{no_registers}
 use Rattle.node_core.specs.Running.{RunningNode}
 use Rattle.node_core.specs.Rules.{announced, coasted, end_answer, ended, first_heard, heard, next_start, passed, received, sent, start_answer, started, takes}
@@ -51,6 +56,12 @@ control_table = record { node = 0; modes = control_mode ∷ idle_mode ∷ [] }
 
 abbrev pub act_table : NodeTable
 act_table = record { node = 2; modes = act_mode ∷ idle_mode ∷ [] }
+
+-- both are what the nodes keep of right plans: of the loop, and of a mode of one round
+abbrev pub TablesAreParts : Type 0
+TablesAreParts =
+    let plans = plans_of (set_with (loop_mode ∷ plans_of_tests.idle_mode ∷ [])) (loop_schedule ∷ idle_schedule ∷ []) in
+    ((typed_table (part_of plans 1) ≡ sense_table) × (typed_table (part_of plans 0) ≡ control_table))
 
 -- ---- the beacons
 

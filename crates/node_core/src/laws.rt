@@ -1,7 +1,7 @@
 //! What the states of nodes have to do with the definitions of the runtime.
 
 ghost use Rattle.node_core.specs.Kinds.{MissesByTheRule};
-ghost use Rattle.node_core.specs.Laws.{KeptByRules, RegistersByRules};
+ghost use Rattle.node_core.specs.Laws.{KeptByRules, PartsFit, RegistersByRules};
 
 /// A Synced node that misses a beacon is in the state that the runtime's rule of a missed beacon gives.
 pub fn misses_by_the_rule()
@@ -16,4 +16,9 @@ pub fn rules_keep_limits()
 /// What an end, a packet and a start do to each register, and that they leave all others.
 pub fn registers_by_rules()
     ensures { RegistersByRules }
+{}
+
+/// The part of the plans that concerns a node is within the limits of a table, so that a node can be made with it.
+pub fn parts_fit()
+    ensures { PartsFit }
 {}

@@ -1,6 +1,11 @@
 //! Worked rows: what nodes of a loop of three tasks do, computed from the rules alone.
 
-ghost use Rattle.node_core.specs.Rows.{ActRuns, ControlSends, DrainEmpties, DrainPlaces, FourProducers, Misses, OtherModeEmpties, SenseRuns, TakesAPacket};
+ghost use Rattle.node_core.specs.Rows.{ActRuns, ControlSends, DrainEmpties, DrainPlaces, FourProducers, Misses, OtherModeEmpties, SenseRuns, TablesAreParts, TakesAPacket};
+
+/// The tables of the rows are what their nodes keep of right plans.
+pub fn tables_are_parts()
+    ensures { TablesAreParts }
+{}
 
 /// A node coasts past one beacon, unless the last one that it heard announced a change.
 pub fn misses()

@@ -51,10 +51,10 @@ kept_length {X} t f (suc n) =
     let e = ap length (flat_below-suc part n) ∙ length-append (flat_map part (below n)) (part n) in
     omega (arith, e, kept_length t f n, one_at_most (t n) (f n))
 
-kept_all : {X : Type 0} (P : X → Type 0) (t : ℕ → Bool) (f : ℕ → X) (n : ℕ) → ((a : ℕ) → a < n → t a ≡ true → P (f a)) → AllByRecursion P (flat_map (λ a. cond (t a) (f a ∷ []) []) (below n))
+pub kept_all : {X : Type 0} (P : X → Type 0) (t : ℕ → Bool) (f : ℕ → X) (n : ℕ) → ((a : ℕ) → a < n → t a ≡ true → P (f a)) → AllByRecursion P (flat_map (λ a. cond (t a) (f a ∷ []) []) (below n))
 kept_all P t f n h = flat_all P (λ a. cond (t a) (f a ∷ []) []) (below n) (below_all _ n (λ a l. cond_all P (t a) (f a ∷ []) (λ e. (h a l e, tt))))
 
-filter_length : (t : ℕ → Bool) (xs : List ℕ) → length (filter t xs) ≤ length xs
+pub filter_length : (t : ℕ → Bool) (xs : List ℕ) → length (filter t xs) ≤ length xs
 filter_length t [] = omega arith
 filter_length t (x ∷ xs) = by_test (t x) (filter t xs) (filter_length t xs)
   where
@@ -62,7 +62,7 @@ filter_length t (x ∷ xs) = by_test (t x) (filter t xs) (filter_length t xs)
     by_test true ys h = omega (arith, h)
     by_test false ys h = omega (arith, h)
 
-filter_all : (P : ℕ → Type 0) (t : ℕ → Bool) (xs : List ℕ) → AllByRecursion P xs → AllByRecursion P (filter t xs)
+pub filter_all : (P : ℕ → Type 0) (t : ℕ → Bool) (xs : List ℕ) → AllByRecursion P xs → AllByRecursion P (filter t xs)
 filter_all P t [] h = tt
 filter_all P t (x ∷ xs) h = by_test (t x) (filter t xs) (filter_all P t xs h.1)
   where
@@ -70,11 +70,11 @@ filter_all P t (x ∷ xs) h = by_test (t x) (filter t xs) (filter_all P t xs h.1
     by_test true ys k = (h.0, k)
     by_test false ys k = k
 
-contained_all : {X : Type 0} (P : X → Type 0) (xs : List X) → ((x : X) → Contains xs x → P x) → AllByRecursion P xs
+pub contained_all : {X : Type 0} (P : X → Type 0) (xs : List X) → ((x : X) → Contains xs x → P x) → AllByRecursion P xs
 contained_all P [] h = tt
 contained_all P (x ∷ xs) h = (h x (0, omega arith, refl), contained_all P xs (λ y c. h y (suc c.0, omega (arith, c.1), c.2)))
 
-map_all : {X Y : Type 0} (P : Y → Type 0) (f : X → Y) (xs : List X) → AllByRecursion (λ x. P (f x)) xs → AllByRecursion P (map f xs)
+pub map_all : {X Y : Type 0} (P : Y → Type 0) (f : X → Y) (xs : List X) → AllByRecursion (λ x. P (f x)) xs → AllByRecursion P (map f xs)
 map_all P f [] h = tt
 map_all P f (x ∷ xs) h = (h.0, map_all P f xs h.1)
 
@@ -90,39 +90,39 @@ role_low false true e = (omega arith, omega arith)
 role_low false false e = absurd (let q : false ≡ true = e in cc)
 
 module _ (set : ModeSet) (i : ℕ) (keeps : KeepsRules set) (l : i < length set.modes) (few : i < 8) (s : Schedule) (right : IsSchedule (plain_at set i) (length s.starts) s) (v : ℕ) where
-  abbrev m : PlainMode
+  abbrev pub m : PlainMode
   m = plain_at set i
 
-  abbrev p : Plan
+  abbrev pub p : Plan
   p = record { mode = m; schedule = s }
 
-  ok : IsValid m
+  pub ok : IsValid m
   ok = mode_at_valid set keeps i l
 
-  lim : IsLimited m
+  pub lim : IsLimited m
   lim = mode_at_limited set keeps i l
 
-  time : HasTimes s
+  pub time : HasTimes s
   time = times m (length s.starts) s ok right
 
   whole : (nodes : ℕ) × RightPlan nodes p
   whole = right_plan set i keeps l s right
 
-  nums : Numbered set i
+  pub nums : Numbered set i
   nums = numbered set keeps i l
 
-  task_number : (a : ℕ) → a < length m.tasks → (task_at m a).number ≤ 1023
+  pub task_number : (a : ℕ) → a < length m.tasks → (task_at m a).number ≤ 1023
   task_number a h = omega (arith, nums.tasks a h, nums.task_low, lim.tasks)
 
-  message_number : (j : ℕ) → j < length m.messages → (message_at m j).number ≤ 511
+  pub message_number : (j : ℕ) → j < length m.messages → (message_at m j).number ≤ 511
   message_number j h = omega (arith, nums.messages j h, nums.message_low, lim.messages)
 
   -- ---- tasks
 
-  abbrev on : ℕ → Bool
+  abbrev pub on : ℕ → Bool
   on a = eqb (node_of p a) v
 
-  abbrev own_task : ℕ → PlainOwnTask
+  abbrev pub own_task : ℕ → PlainOwnTask
   own_task a = record { number = (task_at m a).number; period = (task_at m a).period; offset = offset p a; wcet = (task_at m a).wcet }
 
   task_range : (a : ℕ) → a < length m.tasks → AreInRange (task_fields (typed_task (own_task a)))
@@ -144,13 +144,13 @@ module _ (set : ModeSet) (i : ℕ) (keeps : KeepsRules set) (l : i < length set.
 
   -- ---- messages
 
-  from_task : (j a : ℕ) → j < length m.messages → Contains (message_at m j).from a → a < length m.tasks
+  pub from_task : (j a : ℕ) → j < length m.messages → Contains (message_at m j).from a → a < length m.tasks
   from_task j a h c = let b = ok.consumer j h in (ok.edges a b.0 (message_edge m j a b.0 h c b.1)).from
 
-  to_task : (j b : ℕ) → j < length m.messages → Contains (message_at m j).to b → b < length m.tasks
+  pub to_task : (j b : ℕ) → j < length m.messages → Contains (message_at m j).to b → b < length m.tasks
   to_task j b h c = let a = ok.producer j h in (ok.edges a.0 b (message_edge m j a.0 b h a.1 c)).to
 
-  abbrev own_message : ℕ → PlainOwnMessage
+  abbrev pub own_message : ℕ → PlainOwnMessage
   own_message j = record {
     number = (message_at m j).number;
     role = cond (eqb (sender_of p j) v) 1 0 + cond (takes_on p j v) 2 0;
@@ -192,7 +192,7 @@ module _ (set : ModeSet) (i : ℕ) (keeps : KeepsRules set) (l : i < length set.
 
   -- ---- rounds
 
-  hyper_bound : (j : ℕ) → j < length s.starts → round_start s j <ℤ pos (hyper m)
+  pub hyper_bound : (j : ℕ) → j < length s.starts → round_start s j <ℤ pos (hyper m)
   hyper_bound j h = in_hyper m (length s.starts) s ok right.shape right.s1 right.s3 right.s4 j h
 
   -- the release is from the hyperperiod before to the round's start
@@ -243,7 +243,7 @@ module _ (set : ModeSet) (i : ℕ) (keeps : KeepsRules set) (l : i < length set.
       by_test true h = omega (arith, h)
       by_test false h = omega (arith, h)
 
-  abbrev own_round : ℕ → PlainOwnRound
+  abbrev pub own_round : ℕ → PlainOwnRound
   own_round j = record { start = natural (round_start s j); slots = own_slots p v j 1 (get_or s.tables j []) }
 
   round_range : (j : ℕ) → j < length s.starts → AreInRange (round_fields (typed_round (own_round j)))
@@ -265,7 +265,7 @@ module _ (set : ModeSet) (i : ℕ) (keeps : KeepsRules set) (l : i < length set.
       flat_all IsInRange round_fields (map typed_round (own_rounds p v))
       (map_all (λ x. AreInRange (round_fields x)) typed_round (own_rounds p v) (map_all (λ r. AreInRange (round_fields (typed_round r))) own_round (below (length s.starts)) (below_all _ (length s.starts) round_range)))
 
-  rounds_count : length (map typed_round (own_rounds p v)) ≡ length s.starts
+  pub rounds_count : length (map typed_round (own_rounds p v)) ≡ length s.starts
   rounds_count = length-map (own_rounds p v) typed_round ∙ length-map (below (length s.starts)) own_round ∙ length-below (length s.starts)
 
   pub mode_range : (first : ℕ) → 1 ≤ first → first ≤ 2048 → AreInRange (mode_fields (typed_mode (part_in first v p)))
@@ -289,7 +289,7 @@ module _ (set : ModeSet) (i : ℕ) (keeps : KeepsRules set) (l : i < length set.
 
 -- ---- all modes
 
-abbrev no_plan : Plan
+abbrev pub no_plan : Plan
 no_plan = record { mode = record { slots = 0; round = 0; gap = 0; periods = []; tasks = []; messages = [] }; schedule = no_schedule }
 
 -- a plan has at most 256 rounds, and its part is in range whatever its first round's number
@@ -305,7 +305,7 @@ modes_range v (p ∷ ps) k first room some most h =
     all_both IsInRange (mode_fields (typed_mode (part_in first v p))) _ (here.range first some (omega (arith, most, room)))
     (modes_range v ps (suc k) (first + length p.schedule.starts) (omega (arith, room)) (omega (arith, some)) (omega (arith, most, here.rounds)) (λ j l. h (suc j) (omega (arith, l))))
 
-mode_count : (v : ℕ) (ps : List Plan) (first : ℕ) → length (map typed_mode (mode_tables v first ps)) ≡ length ps
+pub mode_count : (v : ℕ) (ps : List Plan) (first : ℕ) → length (map typed_mode (mode_tables v first ps)) ≡ length ps
 mode_count v [] first = refl
 mode_count v (p ∷ ps) first = ap suc (mode_count v ps (first + length p.schedule.starts))
 

@@ -28,7 +28,7 @@ use Rattle.sched_model.proofs.KeptRules.{KeptEnds, KeptApp, KeptMode}
 use Rattle.sched_model.proofs.PlainPlaces.{no_raw_task, no_raw_message, nothing, At, task_there, task_found, one_app, at_all, place_at, IsMessage, message_found}
 
 -- ---- a known name has a place
-known_place : (name : List ℕ) (us : List RawTask) → is_task us name ≡ true →
+pub known_place : (name : List ℕ) (us : List RawTask) → is_task us name ≡ true →
     let q = position_or_len (λ (u : RawTask). bytes_eq name u.name) us in (q < length us) × ((get_or us q no_raw_task).name ≡ name)
 known_place name [] e = absurd cc
 known_place name (u ∷ us) e =
@@ -44,14 +44,14 @@ known_place name (u ∷ us) e =
     (omega (arith, z, r.0), ap (λ i. (get_or (u ∷ us) i no_raw_task).name) z ∙ r.1))
     (cases_Bool here)
 
-place_is : (name : List ℕ) (us : List RawTask) → is_task us name ≡ true → task_place us name ≡ position_or_len (λ (u : RawTask). bytes_eq name u.name) us
+pub place_is : (name : List ℕ) (us : List RawTask) → is_task us name ≡ true → task_place us name ≡ position_or_len (λ (u : RawTask). bytes_eq name u.name) us
 place_is name us e =
     let q = position_or_len (λ (u : RawTask). bytes_eq name u.name) us in
     let k = known_place name us e in
     ap (λ (o : Option ℕ). unwrap_or o 0) (cond-true (ltb q (length us)) (Some q) None (lt-ltb q (length us) k.0))
 
 -- an item of a mapped list comes from one of the list
-from_mapped : {X Y : Type 0} (f : X → Y) (xs : List X) (d : X) (y : Y) → Contains (map f xs) y → (x : X) × Contains xs x × (f x ≡ y)
+pub from_mapped : {X Y : Type 0} (f : X → Y) (xs : List X) (d : X) (y : Y) → Contains (map f xs) y → (x : X) × Contains xs x × (f x ≡ y)
 from_mapped f xs d y (k, l, e) =
     let l' : k < length xs = omega (arith, l, length-map xs f) in
     let x = get_or xs k d in
@@ -61,7 +61,7 @@ into_mapped : {X Y : Type 0} (f : X → Y) (xs : List X) (x : X) → Contains xs
 into_mapped f xs x (k, l, e) = (k, omega (arith, l, length-map xs f), get_or-map f xs k x (f x) l ∙ ap f e)
 
 -- a name of the list is among its names
-among_names : (name : List ℕ) (names : List (List ℕ)) (other : List ℕ) → Contains names name → other ≡ name → among other names ≡ true
+pub among_names : (name : List ℕ) (names : List (List ℕ)) (other : List ℕ) → Contains names name → other ≡ name → among other names ≡ true
 among_names name names other (k, l, e) same = passes (bytes_eq other) names name k l ((bytes_eq-Decides other (get_or names k name)).1 (same ∙ sym e))
 
 -- ---- the applications' periods

@@ -7,14 +7,14 @@ use Rattle.std.proofs.lemmas.Grind.{flat_map-append}
 use borrow.Author.Differences.{le-true, at_most_in}
 use Rattle.app_graph.specs.declared.faults.GraphFault.TheVariants.{OutOfRange, Repeated, Unknown, Cycle, DeadlineLong, TooMany}
 use Rattle.app_graph.specs.declared.keys.Key.{Key}
-use Rattle.app_graph.specs.declared.keys.Key.TheVariants.{KSlots, KRound, KGap, KPeriod, KDeadline, KWcet, KFrom, KTo, KHyperperiod, KRounds, KRuns, KInstances, KDecisions}
+use Rattle.app_graph.specs.declared.keys.Key.TheVariants.{KSlots, KRound, KGap, KPeriod, KDeadline, KWcet, KFrom, KTo, KInputs, KHyperperiod, KRounds, KRuns, KInstances, KDecisions}
 use Rattle.app_graph.specs.declared.raw.RawTask.{RawTask}
 use Rattle.app_graph.specs.declared.raw.RawMessage.{RawMessage}
 use Rattle.app_graph.specs.declared.raw.RawApp.{RawApp}
 use Rattle.app_graph.specs.declared.raw.RawMode.{RawMode}
 use Rattle.app_graph.specs.declared.raw.RawSet.{RawSet}
 use Rattle.app_graph.specs.Rules.{Rule, unless, each, each_after}
-use Rattle.app_graph.specs.ValueRules.{within, has_some, at_most, among, is_task, listed, ends, task_rules, task_values, message_rules, message_values, has_cycle, own_rules, graph_rules, app_rules, app_values, hyper_of, runs_in, pairs_in, size_values, mode_rules, mode_values, round_rules, set_rules, value_rules}
+use Rattle.app_graph.specs.ValueRules.{within, has_some, at_most, among, is_task, listed, ends, task_rules, task_values, message_rules, message_values, inputs_of, has_cycle, own_rules, graph_rules, app_rules, app_values, hyper_of, runs_in, pairs_in, size_values, mode_rules, mode_values, round_rules, set_rules, value_rules}
 use Rattle.ttw_text.specs.Names.{is_name}
 use Rattle.app_graph.proofs.Kept.{kept_parts, unless_kept, each_kept, all_kept, app_tasks, app_messages, app_period}
 
@@ -56,6 +56,7 @@ pub record KeptApp (app : RawApp) : Type 0 where
   pub deadline : 1 ≤ unsigned_abs app.deadline
   pub wcets : AllByRecursion (λ t. (1 ≤ unsigned_abs t.wcet) × (unsigned_abs t.wcet ≤ unsigned_abs app.period)) app.tasks
   pub messages : AllByRecursion (λ m. KeptEnds 4 app m.from × KeptEnds 16 app m.to) app.messages
+  pub inputs : AllByRecursion (λ t. inputs_of app t ≤ 64) app.tasks
   pub acyclic : has_cycle app ≡ false
 
 kept_ends : (key : Key) (most : ℕ) (app : RawApp) (names : List (List ℕ)) → ends key most app names ≡ None → KeptEnds most app names
@@ -81,6 +82,12 @@ kept_ends key most app names e =
 kept_message : (app : RawApp) (before : List RawMessage) (m : RawMessage) → message_values app before m ≡ None → KeptEnds 4 app m.from × KeptEnds 16 app m.to
 kept_message app before m e = let k = all_kept (message_rules app before m) e in (kept_ends KFrom 4 app m.from k.1.0, kept_ends KTo 16 app m.to k.1.1.0)
 
+-- each task takes at most 64 values
+kept_inputs : (app : RawApp) → each (λ t. unless (nat_le (inputs_of app t) 64) (TooMany KInputs)) app.tasks ≡ None → AllByRecursion (λ t. inputs_of app t ≤ 64) app.tasks
+kept_inputs app e =
+    let rule = λ (t : RawTask). unless (nat_le (inputs_of app t) 64) (TooMany KInputs) in
+    mapped (λ t. rule t ≡ None) (λ t. inputs_of app t ≤ 64) (λ t k. leb-true (inputs_of app t) 64 (unless_kept (nat_le (inputs_of app t) 64) (TooMany KInputs) k)) app.tasks (kept_each rule app.tasks e)
+
 abs_some : (z : ℤ) → pos 1 ≤ℤ z → 1 ≤ unsigned_abs z
 abs_some (pos k) h = omega (arith, ints, h)
 abs_some (negsuc k) h = absurd (omega (arith, ints, h))
@@ -102,6 +109,7 @@ kept_app set earlier app e =
       deadline = (abs_within app.deadline 1000000000000 (within_parts (pos 1) (pos 1000000000000) app.deadline (unless_kept (within (pos 1) (pos 1000000000000) app.deadline) (OutOfRange KDeadline) own.1.1.0))).0;
       wcets = each_kept (task_values set app) (λ t. (1 ≤ unsigned_abs t.wcet) × (unsigned_abs t.wcet ≤ unsigned_abs app.period)) (kept_wcet set app) (flat_map (λ a. a.tasks) earlier) app.tasks k.1.0;
       messages = each_kept (message_values app) (λ m. KeptEnds 4 app m.from × KeptEnds 16 app m.to) (kept_message app) (flat_map (λ a. a.messages) earlier) app.messages k.1.1.0;
+      inputs = kept_inputs app graph.0;
       acyclic = not-true (has_cycle app) (unless_kept (not (has_cycle app)) (Cycle app.name) graph.1.0);
     }
 
