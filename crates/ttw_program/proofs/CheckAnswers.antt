@@ -1,18 +1,23 @@
 -- The lines of modes, and the answer to a plan
-use Rattle.std.proofs.Common.{◌≡◌, ℕ, ◌+◌, ◌<◌, ◌≤◌, List, [], ◌∷◌, ◌++◌, length, get_or, take, refl, sym, ◌∙◌, ap, subst, arith, inl, append_assoc, append-nil}
-use Rattle.std.specs.Prelude.{Result, Ok, Err, IfOk}
-use Rattle.std.specs.List.{flat_map}
+use Rattle.std.proofs.Common.{◌≡◌, ℕ, ◌+◌, ◌<◌, ◌≤◌, List, [], ◌∷◌, ◌++◌, length, get_or, take, refl, sym, ◌∙◌, ap, subst, arith, inl, inr, append_assoc, append-nil}
+use Rattle.std.specs.Prelude.{Result, Ok, Err, IfOk, Option}
+use Rattle.std.specs.List.{flat_map, AllZip}
 use Rattle.std.proofs.lemmas.List.{take_more, take_all}
 use Rattle.std.proofs.lemmas.Grind.{flat_map-append}
 use Rattle.ttw_io.specs.Outside.{Told, untold, missing, file, IsWhole, IsLonger, OfFile}
 use Rattle.app_graph.specs.declared.mode_set.ModeSet.{ModeSet}
+use Rattle.sched_model.specs.declared.schedule.Schedule.{Schedule}
+use Rattle.proof_tree.specs.Accepting.{IsRight, doc_modes}
+use Rattle.cert_checker.specs.declared.checking.Accepted.{Accepted as IsPlans}
 use Rattle.ttw_program.specs.declared.answers.Answer.{Answer}
 use Rattle.ttw_program.specs.declared.answers.End.{End}
 use Rattle.ttw_program.specs.declared.mode_files.ModeFile.TheVariants.{Set}
 use Rattle.ttw_program.specs.declared.status.Status.{Status}
 use Rattle.ttw_program.specs.declared.status.Status.TheVariants.{Plan}
 use Rattle.ttw_program.specs.Commands.{none, command}
-use Rattle.ttw_program.specs.Checks.{CheckDue, long_plan_line, most_plan_bytes}
+use Rattle.ttw_program.specs.PlanFiles.{OfPlan, PlanSaid, PlanSaidOf, long_plan_line, most_plan_bytes}
+use Rattle.ttw_program.specs.declared.plan_files.PlanFile.{PlanFile}
+use Rattle.ttw_program.specs.declared.plan_files.PlanFile.TheVariants.{Accepted, Refused}
 use Rattle.ttw_program.specs.ModeFiles.{SaysOf}
 use Rattle.ttw_program.specs.Due.{OfSet}
 use Rattle.ttw_program.proofs.Answering.{of_said}
@@ -38,16 +43,34 @@ two_texts out once twice words name same e1 e2 e = e2 ∙ ap (λ (t : List ℕ).
 -- ---- the plan that a file has
 
 -- a plan that is longer than what is read of one
-pub long_plan : (told : Told) (set : ModeSet) (bytes : List ℕ) (s : Status) (t : List ℕ) → IsLonger told most_plan_bytes bytes → s ≡ Plan → t ≡ long_plan_line → OfFile told (CheckDue set) s t
-long_plan untold set bytes s t l es et = (bytes, inl (omega (arith, l), es, et))
-long_plan missing set bytes s t l es et = absurd l
-long_plan (file all) set bytes s t l es et = inl (l.0, es, et)
+pub long_plan : (told : Told) (set : ModeSet) (bytes : List ℕ) (answer : Answer) → IsLonger told most_plan_bytes bytes → answer.status ≡ Plan → answer.text ≡ long_plan_line → PlanSaidOf set told (Refused answer)
+long_plan untold set bytes answer l es et = (bytes, inl (omega (arith, l), es, et))
+long_plan missing set bytes answer l es et = absurd l
+long_plan (file all) set bytes answer l es et = inl (l.0, es, et)
 
--- what is due of the bytes is due of the file that has them
-pub whole_plan : (told : Told) (set : ModeSet) (bytes : List ℕ) (s : Status) (t : List ℕ) → IsWhole told bytes → CheckDue set bytes s t → OfFile told (CheckDue set) s t
-whole_plan untold set bytes s t w d = (bytes, d)
-whole_plan missing set bytes s t w d = absurd w
-whole_plan (file all) set bytes s t w d = subst (λ (b : List ℕ). CheckDue set b s t) (sym w) d
+-- what the bytes say is what the file that has them says
+pub whole_plan : (told : Told) (set : ModeSet) (bytes : List ℕ) (said : PlanFile) → IsWhole told bytes → PlanSaid set bytes said → PlanSaidOf set told said
+whole_plan untold set bytes said w d = (bytes, d)
+whole_plan missing set bytes said w d = absurd w
+whole_plan (file all) set bytes said w d = subst (λ (b : List ℕ). PlanSaid set b said) (sym w) d
+
+-- what is due of the schedules of the plan of a file
+pub of_accepted : (told : Told) (set : ModeSet) (D : List (Option Schedule) → Status → List ℕ → Type 0) (accepted : IsPlans) (s : Status) (t : List ℕ) → PlanSaidOf set told (Accepted accepted) → D accepted.modes s t → OfFile told (OfPlan set D) s t
+of_accepted untold set D accepted s t (bytes, says) d = (bytes, inr (accepted.modes, says, d))
+of_accepted missing set D accepted s t says d = absurd says
+of_accepted (file bytes) set D accepted s t says d = inr (accepted.modes, says, d)
+
+-- the answer that refuses it
+pub of_refused_plan : (told : Told) (set : ModeSet) (D : List (Option Schedule) → Status → List ℕ → Type 0) (answer : Answer) → PlanSaidOf set told (Refused answer) → OfFile told (OfPlan set D) answer.status answer.text
+of_refused_plan untold set D answer (bytes, says) = (bytes, inl says)
+of_refused_plan missing set D answer says = absurd says
+of_refused_plan (file bytes) set D answer says = inl says
+
+-- the schedules of an accepted plan are right
+pub accepted_right : (told : Told) (set : ModeSet) (accepted : IsPlans) → PlanSaidOf set told (Accepted accepted) → AllZip IsRight (doc_modes set) accepted.modes
+accepted_right untold set accepted (bytes, says) = says.1.right
+accepted_right missing set accepted says = absurd says
+accepted_right (file bytes) set accepted says = says.1.right
 
 -- what is due of the set that a file says, where the answer is one
 pub answer_said : (told : Told) (set : ModeSet) (D : ModeSet → Status → List ℕ → Type 0) (answer : Result Answer End) → SaysOf told (Set set) → IfOk answer (λ a. D set a.status a.text) → IfOk answer (λ a. OfFile told (OfSet D) a.status a.text)

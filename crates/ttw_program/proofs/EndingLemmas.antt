@@ -1,17 +1,21 @@
 -- How a run ends, from what writing its text ended with
-use Rattle.std.proofs.Common.{◌≡◌, ℕ, List, Option, refl, sym, subst, inl, inr, Bool, true, false}
-use Rattle.std.specs.Prelude.{if◌then◌else◌}
+use Rattle.std.proofs.Common.{◌≡◌, ℕ, List, Option, Some, None, refl, sym, subst, inl, inr, Bool, true, false}
+use Rattle.std.specs.Prelude.{if◌then◌else◌, position}
+use Rattle.std.specs.Str.{bytes_eq}
 use Rattle.std.specs.Io.KnownBytes.{append_known}
 use Rattle.ttw_io.specs.Outside.{Rose, Told, untold, missing, file, OfFile}
 use Rattle.ttw_program.specs.declared.status.Status.{Status}
 use Rattle.ttw_program.specs.declared.status.Status.TheVariants.{Done, NoSchedule, Usage, ModeFile, Plan, Budget, ReadFault}
 use Rattle.ttw_program.specs.FaultLines.{read_fault_line}
 use Rattle.ttw_program.specs.Endings.{Counts, FlushedOnce, Ends, Finishes}
-use Rattle.ttw_program.specs.Commands.{Command, plan, check, none}
+use Rattle.ttw_program.specs.Commands.{Command, plan, check, tables, none}
 use Rattle.ttw_program.specs.Plans.{plan_status}
-use Rattle.ttw_program.specs.Checks.{CheckDue}
+use Rattle.ttw_program.specs.PlanFiles.{OfPlan, OfSchedules}
+use Rattle.ttw_program.specs.Checks.{CheckDue, IsVerdict}
+use Rattle.ttw_program.specs.Tables.{ImageDue, IsImage, OfNode, TablesDue}
 use Rattle.ttw_program.specs.Due.{OfCommand, OfSet, PlanDue}
 use Rattle.app_graph.specs.declared.mode_set.ModeSet.{ModeSet}
+use Rattle.sched_model.specs.declared.schedule.Schedule.{Schedule}
 
 -- a status that an answer has
 pub data IsAnswered : Status → Type 0 where
@@ -42,16 +46,29 @@ of_file D k untold s t (bytes, d) = k bytes s t d
 of_file D k missing s t d = absurd d
 of_file D k (file bytes) s t d = k bytes s t d
 
-verdict_answered : (set : ModeSet) (bytes : List ℕ) (s : Status) (t : List ℕ) → CheckDue set bytes s t → IsAnswered s
-verdict_answered set bytes s t (inl (long, es, et)) = answered s Plan es refused_plan
-verdict_answered set bytes s t (inr (short, inl (plans, accepted, best, es, et))) = answered s Done es done
-verdict_answered set bytes s t (inr (short, inr (refusal, refuses, es, et))) = answered s Plan es refused_plan
+of_plan : (set : ModeSet) (D : List (Option Schedule) → Status → List ℕ → Type 0) → ((plans : List (Option Schedule)) (s : Status) (t : List ℕ) → D plans s t → IsAnswered s) → (bytes : List ℕ) (s : Status) (t : List ℕ) → OfPlan set D bytes s t → IsAnswered s
+of_plan set D k bytes s t (inl (inl (long, es, et))) = answered s Plan es refused_plan
+of_plan set D k bytes s t (inl (inr (short, (refusal, refuses, es, et)))) = answered s Plan es refused_plan
+of_plan set D k bytes s t (inr (plans, accepted, d)) = k plans s t d
+
+of_schedules : (set : ModeSet) (D : List Schedule → Status → List ℕ → Type 0) → ((schedules : List Schedule) (s : Status) (t : List ℕ) → D schedules s t → IsAnswered s) → (plans : List (Option Schedule)) (s : Status) (t : List ℕ) → OfSchedules set D plans s t → IsAnswered s
+of_schedules set D k plans s t (inl (mode, lacks, es, et)) = answered s Plan es refused_plan
+of_schedules set D k plans s t (inr (schedules, is, d)) = k schedules s t d
+
+image_answered : (set : ModeSet) (v : ℕ) (bytes : List ℕ) (s : Status) (t : List ℕ) → ImageDue set v bytes s t → IsAnswered s
+image_answered set v = of_plan set (OfSchedules set (IsImage set v)) (of_schedules set (IsImage set v) (λ schedules s t d. answered s Done d.0 done))
+
+tables_answered : (told : Told) (name : List ℕ) (set : ModeSet) (node : Option ℕ) (s : Status) (t : List ℕ) → OfNode (λ v. OfFile told (ImageDue set v)) name node s t → IsAnswered s
+tables_answered told name set None s t d = answered s ModeFile d.0 mode_file
+tables_answered told name set (Some v) s t d = of_file (ImageDue set v) (image_answered set v) told s t d
 
 -- what is due of a command has the status of an answer
 pub due_answered : (command : Command) (told : List ℕ → Told) (s : Status) (t : List ℕ) → OfCommand command told s t → IsAnswered s
 due_answered (plan name most) told s t d = of_file (OfSet (PlanDue most)) (of_set (PlanDue most) (plan_answered most)) (told name) s t d
 due_answered (check name other) told s t d =
-    of_file (OfSet (λ set. OfFile (told other) (CheckDue set))) (of_set (λ set. OfFile (told other) (CheckDue set)) (λ set x y e. of_file (CheckDue set) (verdict_answered set) (told other) x y e)) (told name) s t d
+    of_file (OfSet (λ set. OfFile (told other) (CheckDue set))) (of_set (λ set. OfFile (told other) (CheckDue set)) (λ set x y e. of_file (CheckDue set) (of_plan set (IsVerdict set) (λ plans x y d. answered x Done d.0 done)) (told other) x y e)) (told name) s t d
+due_answered (tables name other node) told s t d =
+    of_file (OfSet (TablesDue (told other) node)) (of_set (TablesDue (told other) node) (λ set x y e. tables_answered (told other) node set (position (bytes_eq node) set.nodes) x y e)) (told name) s t d
 due_answered none told s t d = answered s Usage d.0 usage
 
 adds : (Due : Status → List ℕ → Type 0) (counts : Counts) (old new : Option (List ℕ)) (s : Status) (t : List ℕ) → IsAnswered s → Due s t → FlushedOnce counts.sink → new ≡ append_known old t → Ends Due counts old new s

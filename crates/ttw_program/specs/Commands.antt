@@ -1,12 +1,14 @@
 -- The commands, and the words that are one
 use Rattle.std.specs.Prelude.{ℕ, codes, List, [], ◌∷◌, ◌&&◌, nat_le, Option, Some, None, if◌then◌else◌}
 use Rattle.std.specs.Str.{bytes_eq}
+use Rattle.ttw_text.specs.Names.{is_name}
 use Rattle.ttw_text.specs.Numbers.{number_of}
 
 -- a command with the names of its files and its numbers, or none
 pub data Command : Type 0 where
   plan : List ℕ → ℕ → Command
   check : List ℕ → List ℕ → Command
+  tables : List ℕ → List ℕ → List ℕ → Command
   none : Command
 
 -- plans for a mode file within a budget from 1 to 100,000
@@ -18,7 +20,12 @@ plan_within file (Some budget) = if nat_le 1 budget && nat_le budget 100000 then
 abbrev pub of_three : List ℕ → List ℕ → List ℕ → Command
 of_three verb file last = if bytes_eq verb (codes "plan") then plan_within file (number_of last) else (if bytes_eq verb (codes "check") then check file last else none)
 
+-- the command of four words: the node has a name's spelling
+abbrev pub of_four : List ℕ → List ℕ → List ℕ → List ℕ → Command
+of_four verb file other last = if bytes_eq verb (codes "tables") && is_name last then tables file other last else none
+
 -- the command of any words
 abbrev pub command : List (List ℕ) → Command
 command (verb ∷ file ∷ last ∷ []) = of_three verb file last
+command (verb ∷ file ∷ other ∷ last ∷ []) = of_four verb file other last
 command _ = none

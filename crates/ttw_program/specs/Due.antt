@@ -13,7 +13,8 @@ use Rattle.ttw_program.specs.declared.status.Status.TheVariants.{Usage, ModeFile
 use Rattle.ttw_program.specs.FaultLines.{usage_line, file_fault_line, budget_line}
 use Rattle.ttw_program.specs.Plans.{PlansAll, SpendsFirst, plan_status}
 use Rattle.ttw_program.specs.Checks.{CheckDue}
-use Rattle.ttw_program.specs.Commands.{Command, plan, check, none, command}
+use Rattle.ttw_program.specs.Tables.{TablesDue}
+use Rattle.ttw_program.specs.Commands.{Command, plan, check, tables, none, command}
 
 -- what a command makes due of the bytes of a mode file: a refusal, or what it makes due of the set that they say
 abbrev pub OfSet : (ModeSet → Status → List ℕ → Type 0) → List ℕ → Status → List ℕ → Type 0
@@ -34,6 +35,7 @@ IsUsage status text = (status ≡ Usage) × (text ≡ usage_line)
 abbrev pub OfCommand : Command → (List ℕ → Told) → Status → List ℕ → Type 0
 OfCommand (plan file budget) told = OfFile (told file) (OfSet (PlanDue budget))
 OfCommand (check file other) told = OfFile (told file) (OfSet (λ set. OfFile (told other) (CheckDue set)))
+OfCommand (tables file other node) told = OfFile (told file) (OfSet (TablesDue (told other) node))
 OfCommand none told = IsUsage
 
 -- what is due of the words, where this is told of files

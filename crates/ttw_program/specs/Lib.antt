@@ -4,5 +4,7 @@ pub mod Endings
 pub mod Commands
 pub mod Plans
 pub mod ModeFiles
+pub mod PlanFiles
 pub mod Checks
+pub mod Tables
 pub mod Due

@@ -6,23 +6,19 @@ ghost use Rattle.app_graph.specs.Validation.{KeepsRules};
 ghost use Rattle.proof_tree.specs.Accepting.{doc_modes, Accepts};
 ghost use Rattle.proof_tree.specs.Fewest.{IsBest};
 ghost use Rattle.ttw_io.specs.Outside.{Rose, OfFile};
-ghost use Rattle.ttw_program.specs.Checks.{CheckDue, accepted_text, mode_line, most_plan_bytes, rounds_said};
-ghost use Rattle.ttw_program.specs.Checks as checks;
+ghost use Rattle.ttw_program.specs.Checks.{CheckDue, accepted_text, mode_line, rounds_said};
 ghost use Rattle.ttw_program.specs.Due.{OfSet};
 
 use crate::answers::{Answer, End};
-use crate::fault_lines::{LONG_PLAN, refusal_line};
 use crate::mode_files::{ModeFile, read_mode_file};
+use crate::plan_files::{PlanFile, read_plan_file};
 use crate::status::Status;
 use app_graph::{Mode, ModeSet};
-use cert_checker::{Accepted, Refused, check};
+use cert_checker::Accepted;
 use sched_model::Schedule;
 use std::alloc::{AllocError, Global};
-use ttw_io::{Files, ReadEnd, read_all};
+use ttw_io::Files;
 use ttw_text::Out;
-
-/// The most bytes that a plan may have.
-const MOST_BYTES: u64 = 16_777_216;
 
 /// Adds the number of rounds of a schedule, or that there is none.
 fn write_rounds(plan: &Option<Schedule>, out: &mut Out) -> Result<(), AllocError>
@@ -75,22 +71,6 @@ fn accepted_answer(alloc: Global, set: &ModeSet, accepted: &Accepted) -> Result<
     })
 }
 
-/// The answer to the bytes of a plan for the set.
-fn check_bytes(alloc: Global, set: &ModeSet, bytes: &[u8]) -> Result<Answer, AllocError>
-    requires rules { KeepsRules set.now }
-    requires short { length bytes.now ≤ most_plan_bytes }
-    ensures { IfOk result (λ a. CheckDue set.now bytes.now a.status a.text) }
-{
-    match check(alloc, set, bytes) {
-        Ok(accepted) => accepted_answer(alloc, set, &accepted),
-        Err(Refused::Memory) => Err(AllocError),
-        Err(refused) => Ok(Answer {
-            status: Status::Plan,
-            text: refusal_line(alloc, set, refused)?,
-        }),
-    }
-}
-
 /// The answer to the plan of this name for the set.
 fn check_plan<F: Files>(
     alloc: Global,
@@ -103,11 +83,9 @@ fn check_plan<F: Files>(
     ensures read { IsErrOf result End.Read → Rose (F.faults files.old) (F.faults files.new) }
     ensures counted { F.faults files.old ≤ F.faults files.new }
 {
-    match read_all(alloc, files, plan, MOST_BYTES) {
-        Ok(bytes) => Ok(check_bytes(alloc, set, bytes.as_slice())?),
-        Err(ReadEnd::Long(_bytes)) => Ok(Answer::told(alloc, Status::Plan, LONG_PLAN)?),
-        Err(ReadEnd::Failed) => Err(End::Read),
-        Err(ReadEnd::Memory) => Err(End::Memory),
+    match read_plan_file(alloc, set, plan, files)? {
+        PlanFile::Accepted(accepted) => Ok(accepted_answer(alloc, set, &accepted)?),
+        PlanFile::Refused(answer) => Ok(answer),
     }
 }
 

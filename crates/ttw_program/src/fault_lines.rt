@@ -4,8 +4,9 @@ ghost use Rattle.std.specs.Prelude.{◌≡◌, ◌++◌, IfOk, OnOk};
 ghost use Rattle.ttw_text.specs.Numbers.{spelled};
 ghost use Rattle.sched_model.specs.PlainMode.{mode_at};
 ghost use Rattle.cert_checker.specs.Refusals as refusals;
-ghost use Rattle.ttw_program.specs.Checks as checks;
-ghost use Rattle.ttw_program.specs.Checks.{refusal_said};
+ghost use Rattle.mode_file.specs.declared.faults.FileFault.TheVariants.{Unknown};
+ghost use Rattle.ttw_program.specs.PlanFiles as plans;
+ghost use Rattle.ttw_program.specs.PlanFiles.{refusal_said};
 ghost use Rattle.ttw_program.specs.FaultLines as lines;
 ghost use Rattle.ttw_program.specs.FaultLines.{said};
 
@@ -125,11 +126,33 @@ pub(crate) fn refusal_line(
     set: &ModeSet,
     refused: Refused,
 ) -> Result<Out, AllocError>
-    ensures { IfOk result (λ out. out ≡ checks.refusal_line set.now (refusals.said refused)) }
+    ensures { IfOk result (λ out. out ≡ plans.refusal_line set.now (refusals.said refused)) }
 {
     let mut out = Out::make(alloc);
     out.put(b"plan: ")?;
     write_refusal(set, refused, &mut out)?;
+    out.line_end()?;
+    Ok(out)
+}
+
+/// The line of a plan in which the mode is the first without a schedule.
+pub(crate) fn none_line(alloc: Global, set: &ModeSet, mode: u32) -> Result<Out, AllocError>
+    ensures { IfOk result (λ out. out ≡ plans.none_line (mode_at set.now mode).name) }
+{
+    let mut out = Out::make(alloc);
+    out.put(b"plan: none ")?;
+    out.put(mode_name(set, mode))?;
+    out.line_end()?;
+    Ok(out)
+}
+
+/// The line of a name of no node.
+pub(crate) fn unknown_node_line(alloc: Global, name: &[u8]) -> Result<Out, AllocError>
+    ensures { IfOk result (λ out. out ≡ lines.file_fault_line (Unknown name.now)) }
+{
+    let mut out = Out::make(alloc);
+    out.put(b"modes: unknown ")?;
+    out.put(name)?;
     out.line_end()?;
     Ok(out)
 }

@@ -6,9 +6,11 @@ mod checking;
 mod ending;
 mod fault_lines;
 mod mode_files;
+mod plan_files;
 mod planning;
 mod program;
 mod status;
+mod tables;
 #[cfg(test)]
 mod tests;
 

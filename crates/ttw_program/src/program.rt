@@ -4,7 +4,7 @@ ghost use Rattle.std.specs.Prelude.{◌≡◌, ◌≤◌, List, map, IfOk, IsErr
 ghost use Rattle.ttw_io.specs.Outside.{Rose, OfFile};
 ghost use Rattle.ttw_text.specs.Numbers.{number_of};
 ghost use Rattle.ttw_program.specs.Endings.{Ends};
-ghost use Rattle.ttw_program.specs.Commands.{command, of_three, plan_within};
+ghost use Rattle.ttw_program.specs.Commands.{command, of_four, of_three, plan_within};
 ghost use Rattle.ttw_program.specs.Due.{Due, OfCommand, IsUsage};
 
 use crate::answers::{Answer, End};
@@ -13,9 +13,10 @@ use crate::ending::finish;
 use crate::fault_lines::{READ_FAULT, USAGE};
 use crate::planning::answer_plan;
 use crate::status::Status;
+use crate::tables::answer_tables;
 use std::alloc::Global;
 use ttw_io::{Files, Sink};
-use ttw_text::read_u64;
+use ttw_text::{is_name, read_u64};
 
 /// The greatest budget of a search.
 const MOST_BUDGET: u64 = 100_000;
@@ -72,6 +73,25 @@ fn three_words<F: Files>(
     usage(alloc)
 }
 
+/// The answer to four words.
+fn four_words<F: Files>(
+    alloc: Global,
+    verb: &str,
+    file: &str,
+    plan: &str,
+    last: &str,
+    files: &mut F,
+) -> Result<Answer, End>
+    ensures due { IfOk result (λ a. OfCommand (of_four verb.now file.now plan.now last.now) (F.contents files.old) a.status a.text) }
+    ensures read { IsErrOf result End.Read → Rose (F.faults files.old) (F.faults files.new) }
+    ensures counted { F.faults files.old ≤ F.faults files.new }
+{
+    if verb == "tables" && is_name(last.as_bytes()) {
+        return answer_tables(alloc, file, plan, last, files);
+    }
+    usage(alloc)
+}
+
 /// The answer to the words.
 fn answer_words<F: Files>(alloc: Global, words: &[&str], files: &mut F) -> Result<Answer, End>
     ensures due { IfOk result (λ a. Due (map (λ w. w.now) words.now) (F.contents files.old) a.status a.text) }
@@ -83,7 +103,8 @@ fn answer_words<F: Files>(alloc: Global, words: &[&str], files: &mut F) -> Resul
         [_] => usage(alloc),
         [_, _] => usage(alloc),
         [verb, file, last] => three_words(alloc, verb, file, last, files),
-        [_, _, _, _, ..] => usage(alloc),
+        [verb, file, plan, last] => four_words(alloc, verb, file, plan, last, files),
+        [_, _, _, _, _, ..] => usage(alloc),
     }
 }
 

@@ -238,9 +238,10 @@ fn second_mode_exceeds_the_budget(rt: HostRuntime) -> Result<(), Fail> {
     Ok(())
 }
 
-/// The status and the text of `check` over a mode file and a plan, where the numbered reads fail.
-fn checked(
+/// The status and the text of the words over the mode file `loop.toml` and the plan `loop.ttw`, where the numbered reads fail.
+fn answer_of_two(
     alloc: Global,
+    words: &[&str],
     file: &str,
     plan: &[u8],
     reads: &[u64],
@@ -253,9 +254,24 @@ fn checked(
     list.push(("loop.ttw".to_string(alloc)?, plan.to_vec(alloc)?))?;
     let mut files = MemFiles::make(list, reads.to_vec(alloc)?);
     let mut out = MemSink::make(alloc, 4096, 4096, Vec::new(alloc))?;
-    let words = ["check", "loop.toml", "loop.ttw"];
-    let status = run(alloc, &words, &mut files, &mut out);
+    let status = run(alloc, words, &mut files, &mut out);
     Ok((status, out.bytes().to_vec(alloc)?))
+}
+
+/// The status and the text of `check` over a mode file and a plan, where the numbered reads fail.
+fn checked(
+    alloc: Global,
+    file: &str,
+    plan: &[u8],
+    reads: &[u64],
+) -> Result<(Status, Vec<u8>), Fail> {
+    answer_of_two(
+        alloc,
+        &["check", "loop.toml", "loop.ttw"],
+        file,
+        plan,
+        reads,
+    )
 }
 
 /// Whether `check` of the plan ends with this status and this text.
@@ -355,6 +371,67 @@ fn longest_plan(rt: HostRuntime) -> Result<(), Fail> {
     let (status, text) = checked(rt.alloc(), LOOP, plan.as_slice(), &[])?;
     assert!(rt; status == Status::Plan);
     assert_eq!(rt; text.as_slice(), b"plan: too long\n".as_slice());
+    Ok(())
+}
+
+/// Whether `tables` of the node over the mode file and the plan ends with this status and this text.
+fn tables(
+    alloc: Global,
+    file: &str,
+    plan: &str,
+    node: &str,
+    wanted: (Status, &str),
+) -> Result<bool, Fail> {
+    let words = ["tables", "loop.toml", "loop.ttw", node];
+    let (status, text) = answer_of_two(alloc, &words, file, plan.as_bytes(), &[])?;
+    Ok(status == wanted.0 && text.as_slice() == wanted.1.as_bytes())
+}
+
+/// The image of the node that sends `m1`, 81 bytes in lines of 32.
+const SENSOR_IMAGE: &str =
+    "0101010000000000000064000100020001000000000000000000640000000000\n0000150000000000000002000100000101000000000000000000000000000000\n0000000017010100000000000000000000\n";
+
+#[test]
+fn node_image(rt: HostRuntime) -> Result<(), Fail> {
+    let alloc = rt.alloc();
+    assert!(rt; tables(alloc, LOOP, LOOP_PLAN, "n1", (Status::Done, SENSOR_IMAGE))?);
+    let unknown = (Status::ModeFile, "modes: unknown n9\n");
+    assert!(rt; tables(alloc, LOOP, LOOP_PLAN, "n9", unknown)?);
+    assert!(rt; tables(alloc, LOOP, "", "n9", unknown)?);
+    let refused = (Status::Plan, "plan: grammar line 1\n");
+    assert!(rt; tables(alloc, LOOP, "", "n1", refused)?);
+    let words = ["tables", "loop.toml", "loop.ttw", "N1"];
+    let (status, _text) = answer_of_two(alloc, &words, LOOP, LOOP_PLAN.as_bytes(), &[])?;
+    assert!(rt; status == Status::Usage);
+    Ok(())
+}
+
+#[test]
+fn tables_want_a_schedule(rt: HostRuntime) -> Result<(), Fail> {
+    let file = three_messages(rt.alloc())?;
+    let plan = "ttw 1\nmode run\nrefute 1\nshort\nrefute 2\nshort\nnone\nend\n";
+    let none = (Status::Plan, "plan: none run\n");
+    assert!(rt; tables(rt.alloc(), file.as_str(), plan, "n0", none)?);
+    Ok(())
+}
+
+/// The mode file is read in two calls, and so is the plan.
+#[test]
+fn failing_reads_of_tables(rt: HostRuntime) -> Result<(), Fail> {
+    let words = ["tables", "loop.toml", "loop.ttw", "n1"];
+    for fail in 1..5 {
+        let (status, text) = answer_of_two(
+            rt.alloc(),
+            &words,
+            LOOP,
+            LOOP_PLAN.as_bytes(),
+            &[fail],
+        )?;
+        assert!(rt; status == Status::ReadFault);
+        assert_eq!(rt; text.as_slice(), b"read fault\n".as_slice());
+    }
+    let (status, _text) = answer_of_two(rt.alloc(), &words, LOOP, LOOP_PLAN.as_bytes(), &[5])?;
+    assert!(rt; status == Status::Done);
     Ok(())
 }
 

@@ -1,9 +1,19 @@
-use Rattle.std.proofs.Common.{subst, List, ℕ}
-use Rattle.ttw_program.specs.Checks.{CheckDue}
-use Rattle.ttw_program.proofs.CheckAnswers.{whole_plan}
+use Rattle.std.proofs.Common.{subst}
+use Rattle.ttw_program.specs.Checks.{IsVerdict}
+use Rattle.ttw_program.specs.PlanFiles.{PlanSaidOf}
+use Rattle.ttw_program.proofs.CheckAnswers.{of_accepted, of_refused_plan}
 use Rattle.ttw_program.proofs.checking.check_plan.Goals as goal
 
-pub returns-in_ok-check_bytes-in-Ok-clause-due : goal.returns-in_ok-check_bytes-in-Ok-clause-due
-returns-in_ok-check_bytes-in-Ok-clause-due g c =
-    whole_plan (g.F.Files.contents c.args.files.now c.args.plan.now) c.args.set.now c.in-Ok.bytes.items c.in_ok-check_bytes-in-Ok.field-0.status c.in_ok-check_bytes-in-Ok.field-0.text c.in-Ok.ensures.end
-    (subst (λ (bytes : List ℕ). CheckDue c.args.set.now bytes c.in_ok-check_bytes-in-Ok.field-0.status c.in_ok-check_bytes-in-Ok.field-0.text) c.as_slice.ensures.value c.in_ok-check_bytes-in-Ok.ensures)
+pub returns-in_ok-accepted_answer-in-Accepted-clause-due : goal.returns-in_ok-accepted_answer-in-Accepted-clause-due
+returns-in_ok-accepted_answer-in-Accepted-clause-due g c =
+    let told = g.F.Files.contents c.args.files.now c.args.plan.now in
+    let answer = (c.in_ok-accepted_answer-in-Accepted).field-0 in
+    let said = (c.in_ok-accepted_answer-in-Accepted).ensures in
+    of_accepted told c.args.set.now (IsVerdict c.args.set.now) c.in-Accepted.accepted answer.status answer.text
+    (subst (PlanSaidOf c.args.set.now told) c.in-Accepted.is c.in_ok-accepted.ensures.says) (said.status, said.text)
+
+pub returns-in-Refused-clause-due : goal.returns-in-Refused-clause-due
+returns-in-Refused-clause-due g c =
+    let told = g.F.Files.contents c.args.files.now c.args.plan.now in
+    of_refused_plan told c.args.set.now (IsVerdict c.args.set.now) c.in-Refused.answer
+    (subst (PlanSaidOf c.args.set.now told) c.in-Refused.is c.in_ok-accepted.ensures.says)

@@ -1,7 +1,7 @@
 use Rattle.std.proofs.Common.{◌∙◌, ap, sym, ◌++◌}
 use Rattle.cert_checker.specs.declared.refused.Refused.{Refused}
 use Rattle.cert_checker.specs.Refusals.{said}
-use Rattle.ttw_program.specs.Checks.{refusal_said}
+use Rattle.ttw_program.specs.PlanFiles.{refusal_said}
 use Rattle.ttw_program.proofs.CheckAnswers.{two_texts}
 use Rattle.ttw_program.proofs.fault_lines.write_refusal.Goals as goal
 
