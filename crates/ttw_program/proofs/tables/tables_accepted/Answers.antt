@@ -1,4 +1,4 @@
-use Rattle.std.proofs.Common.{◌≡◌, arith, subst, sym, List}
+use Rattle.std.proofs.Common.{arith, subst, sym, List}
 use Rattle.sched_model.specs.declared.schedule.Schedule.{Schedule}
 use Rattle.node_tables.specs.Parts.{AreSchedules}
 use Rattle.ttw_program.specs.PlanFiles.{HasSchedules}
