@@ -7,7 +7,7 @@ use Rattle.sched_model.specs.Numbers.{below, has}
 use Rattle.sched_model.specs.PlainMode.{PlainMode, PlainMessage}
 use Rattle.sched_model.specs.TaskGraph.{reaches_in, first, last}
 use Rattle.sched_model.specs.declared.links.Link.{Link}
-use Rattle.sched_model.specs.Links.{in_set, set_of, link_of, back_from}
+use Rattle.sched_model.specs.Links.{TaskLinks, in_set, set_of, link_of, graph_of, back_from}
 use Rattle.sched_model.proofs.TaskSets.{or_false, and_true, and_false, single, is_in}
 
 -- ---- tests
@@ -113,10 +113,14 @@ comes_from n a l most (msg ∷ ms) =
     ap (λ b. b || list_any (λ (l : Link). in_set l.from a) (map (link_of n) ms)) (is_in (set_of n msg.from) a (has msg.from) n l most refl)
     ∙ ap (λ b. has msg.from a || b) (comes_from n a l most ms)
 
-pub first_is : (m : PlainMode) (links : List Link) (a : ℕ) → a < length m.tasks → length m.tasks ≤ 128 → links ≡ map (link_of (length m.tasks)) m.messages
-    → not (list_any (λ (l : Link). in_set l.to a) links) ≡ first m a
-first_is m links a l most e = ap (λ (ls : List Link). not (list_any (λ (x : Link). in_set x.to a) ls)) e ∙ ap not (goes_to (length m.tasks) a l most m.messages)
+pub first_is : (m : PlainMode) (g : TaskLinks) (a : ℕ) → g ≡ graph_of m → a < g.tasks → g.tasks ≤ 128 → not (list_any (λ (l : Link). in_set l.to a) g.links) ≡ first m a
+first_is m g a e l most =
+    let size = ap (λ (x : TaskLinks). x.tasks) e in
+    ap (λ (x : TaskLinks). not (list_any (λ (y : Link). in_set y.to a) x.links)) e
+    ∙ ap not (goes_to (length m.tasks) a (omega (arith, l, size)) (omega (arith, most, size)) m.messages)
 
-pub last_is : (m : PlainMode) (links : List Link) (a : ℕ) → a < length m.tasks → length m.tasks ≤ 128 → links ≡ map (link_of (length m.tasks)) m.messages
-    → not (list_any (λ (l : Link). in_set l.from a) links) ≡ last m a
-last_is m links a l most e = ap (λ (ls : List Link). not (list_any (λ (x : Link). in_set x.from a) ls)) e ∙ ap not (comes_from (length m.tasks) a l most m.messages)
+pub last_is : (m : PlainMode) (g : TaskLinks) (a : ℕ) → g ≡ graph_of m → a < g.tasks → g.tasks ≤ 128 → not (list_any (λ (l : Link). in_set l.from a) g.links) ≡ last m a
+last_is m g a e l most =
+    let size = ap (λ (x : TaskLinks). x.tasks) e in
+    ap (λ (x : TaskLinks). not (list_any (λ (y : Link). in_set y.from a) x.links)) e
+    ∙ ap not (comes_from (length m.tasks) a (omega (arith, l, size)) (omega (arith, most, size)) m.messages)

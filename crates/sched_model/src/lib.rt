@@ -18,14 +18,17 @@ mod task_clause;
 mod trees;
 mod verdict;
 
+pub use links::{TaskGraph, TaskSet};
 pub use numbered::{
     MessageRow, message_place, message_row, mode_of_task, task_place, task_row, tasks,
 };
 pub use numbers::{hyper, instances, most_rounds};
-pub use rows::TaskRow;
+pub use rows::{TaskRow, apps_of, deadline_of, mode_name, period_of};
 pub use schedule::Schedule;
 pub use trees::TreeNode;
 pub use verdict::verify;
 
+#[cfg(test)]
+mod graph_tests;
 #[cfg(test)]
 mod verdict_tests;

@@ -1,12 +1,12 @@
 //! The clause on the windows of messages. No call takes memory.
 
-ghost use Rattle.std.specs.Prelude.{◌≡◌, ◌↔◌, ℕ, ◌<◌, ◌≤◌, IsTrue, length, map};
+ghost use Rattle.std.specs.Prelude.{◌≡◌, ◌↔◌, ℕ, ◌<◌, ◌≤◌, IsTrue, length};
 ghost use Rattle.sched_model.specs.Judged.{IsCase, SenderFits, ShowsWindow, TakerFits};
-ghost use Rattle.sched_model.specs.Links.{link_of};
+ghost use Rattle.sched_model.specs.Links.{graph_of};
 ghost use Rattle.sched_model.specs.PlainMode.{plain_at};
 ghost use Rattle.sched_model.specs.RightSchedule.{MessageFits};
 
-use crate::links::{Link, holds};
+use crate::links::{Link, TaskGraph, holds};
 use crate::rows::{apps_of, find_message, message_count, period_of, task_at, task_count};
 use crate::schedule::Schedule;
 use crate::schedule_times::{closes, opens, task_start};
@@ -34,11 +34,11 @@ pub(crate) fn window_of(
     set: &ModeSet,
     mode: u32,
     s: &Schedule,
-    links: &[Link],
+    graph: &TaskGraph,
     message: usize,
 ) -> Window
     requires case { IsCase set.now mode s.now }
-    requires links { links.now ≡ map (link_of (length (plain_at set.now mode).tasks)) (plain_at set.now mode).messages }
+    requires graph { graph.now ≡ graph_of (plain_at set.now mode) }
     requires message { message < length (plain_at set.now mode).messages }
     ensures shows { ShowsWindow (plain_at set.now mode) s.now result }
     ensures place { result.message ≡ message }
@@ -50,7 +50,7 @@ pub(crate) fn window_of(
         opens: opens(s, message),
         closes: closes(s, message),
         period: period_of(app),
-        link: links[message],
+        link: graph.link(message),
     }
 }
 
@@ -134,13 +134,13 @@ fn window_fits(set: &ModeSet, mode: u32, s: &Schedule, window: Window) -> bool
 }
 
 /// Whether the window of each message lasts and fits its producers and consumers.
-pub(crate) fn messages_fit(set: &ModeSet, mode: u32, s: &Schedule, links: &[Link]) -> bool
+pub(crate) fn messages_fit(set: &ModeSet, mode: u32, s: &Schedule, graph: &TaskGraph) -> bool
     requires case { IsCase set.now mode s.now }
-    requires links { links.now ≡ map (link_of (length (plain_at set.now mode).tasks)) (plain_at set.now mode).messages }
+    requires graph { graph.now ≡ graph_of (plain_at set.now mode) }
     ensures { IsTrue result ↔ ((i : ℕ) → i < length (plain_at set.now mode).messages → MessageFits (plain_at set.now mode) s.now i) }
 {
     for message in 0..message_count(set, mode) {
-        let window = window_of(set, mode, s, links, message);
+        let window = window_of(set, mode, s, graph, message);
         if !window_fits(set, mode, s, window) {
             return false;
         }

@@ -22,12 +22,22 @@ pub struct TaskRow {
     pub deadline: u64,
 }
 
-/// The applications of a mode.
-pub(crate) fn apps_of(set: &ModeSet, mode: u32) -> &[App]
+/// The applications of the mode of this number, from 0, in file order.
+pub fn apps_of(set: &ModeSet, mode: u32) -> &[App]
     requires { mode < length set.now.modes }
     ensures { result.now ≡ (mode_at set.now mode).apps }
 {
     set.modes.as_slice()[mode as usize].apps.as_slice()
+}
+
+/// The name of the mode of this number, from 0; empty where there is no such mode.
+pub fn mode_name(set: &ModeSet, mode: u32) -> &[u8]
+    ensures { result.now ≡ (mode_at set.now mode).name }
+{
+    match set.modes.as_slice().get(mode as usize) {
+        Some(mode) => mode.name.as_bytes(),
+        None => &[],
+    }
 }
 
 /// How many tasks the applications have.
@@ -117,15 +127,15 @@ pub(crate) fn find_message(apps: &[App], place: usize) -> (&App, &Message)
     unreachable!()
 }
 
-/// The period of the application.
-pub(crate) fn period_of(app: &App) -> u64
+/// The period of the application, in ticks.
+pub fn period_of(app: &App) -> u64
     ensures { result ≡ unsigned_abs app.now.period }
 {
     app.period.unsigned_abs()
 }
 
-/// The deadline of the application.
-pub(crate) fn deadline_of(app: &App) -> u64
+/// The deadline of the application, in ticks.
+pub fn deadline_of(app: &App) -> u64
     ensures { result ≡ unsigned_abs app.now.deadline }
 {
     app.deadline.unsigned_abs()

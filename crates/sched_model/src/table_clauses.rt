@@ -1,15 +1,15 @@
 //! The clauses on the rounds' tables. No call takes memory.
 
-ghost use Rattle.std.specs.Prelude.{◌≡◌, ◌↔◌, ℕ, ◌+◌, ◌-◌, ◌*◌, ◌/◌, ◌<◌, ◌≤◌, IfNone, IfSome, IsTrue, [], length, map, pos, slice_index_or, true};
+ghost use Rattle.std.specs.Prelude.{◌≡◌, ◌↔◌, ℕ, ◌+◌, ◌-◌, ◌*◌, ◌/◌, ◌<◌, ◌≤◌, IfNone, IfSome, IsTrue, [], length, pos, slice_index_or, true};
 ghost use Rattle.sched_model.specs.Judged.{IsCase, ShowsWindow};
-ghost use Rattle.sched_model.specs.Links.{in_set, link_of};
+ghost use Rattle.sched_model.specs.Links.{graph_of, in_set};
 ghost use Rattle.sched_model.specs.Marked.{Marks};
 ghost use Rattle.sched_model.specs.Numbers;
 ghost use Rattle.sched_model.specs.OneHyperperiod.{EndsInWindow, EntriesFit, Lists, ServedOnce, ServesFirst, first_start, window_then};
 ghost use Rattle.sched_model.specs.PlainMode.{hyper, instance_count, message_at, plain_at};
 ghost use Rattle.sched_model.specs.RightSchedule.{ExactlyOne, TableFits};
 
-use crate::links::{Link, holds};
+use crate::links::{TaskGraph, holds};
 use crate::message_clause::{Window, window_of};
 use crate::round_clauses::round_of;
 use crate::rows::message_count;
@@ -263,15 +263,15 @@ fn are_served(set: &ModeSet, mode: u32, s: &Schedule, window: Window, ticks: u64
 }
 
 /// Whether each window of each message has exactly one round that carries it.
-fn messages_served(set: &ModeSet, mode: u32, s: &Schedule, links: &[Link], ticks: u64) -> bool
+fn messages_served(set: &ModeSet, mode: u32, s: &Schedule, graph: &TaskGraph, ticks: u64) -> bool
     requires case { IsCase set.now mode s.now }
-    requires links { links.now ≡ map (link_of (length (plain_at set.now mode).tasks)) (plain_at set.now mode).messages }
+    requires graph { graph.now ≡ graph_of (plain_at set.now mode) }
     requires ticks { ticks ≡ hyper (plain_at set.now mode) }
     requires limits { (1 ≤ ticks) × (ticks ≤ 1000000000000) }
     ensures { IsTrue result ↔ ((i : ℕ) → i < length (plain_at set.now mode).messages → (k : ℕ) → k < instance_count (plain_at set.now mode) (message_at (plain_at set.now mode) i) → ExactlyOne (ServesFirst (plain_at set.now mode) s.now i k)) }
 {
     for message in 0..message_count(set, mode) {
-        let window = window_of(set, mode, s, links, message);
+        let window = window_of(set, mode, s, graph, message);
         if !are_served(set, mode, s, window, ticks) {
             return false;
         }
@@ -284,11 +284,11 @@ pub(crate) fn served_once(
     set: &ModeSet,
     mode: u32,
     s: &Schedule,
-    links: &[Link],
+    graph: &TaskGraph,
     ticks: u64,
 ) -> bool
     requires case { IsCase set.now mode s.now }
-    requires links { links.now ≡ map (link_of (length (plain_at set.now mode).tasks)) (plain_at set.now mode).messages }
+    requires graph { graph.now ≡ graph_of (plain_at set.now mode) }
     requires ticks { ticks ≡ hyper (plain_at set.now mode) }
     requires limits { (1 ≤ ticks) × (ticks ≤ 1000000000000) }
     ensures { IsTrue result ↔ ServedOnce (plain_at set.now mode) s.now }
@@ -296,7 +296,7 @@ pub(crate) fn served_once(
     if !tables_fit(set, mode, s) {
         return false;
     }
-    messages_served(set, mode, s, links, ticks)
+    messages_served(set, mode, s, graph, ticks)
 }
 
 /// Whether the round at the place ends before the window closes, where it carries the message.
@@ -342,17 +342,17 @@ pub(crate) fn entries_fit(
     set: &ModeSet,
     mode: u32,
     s: &Schedule,
-    links: &[Link],
+    graph: &TaskGraph,
     ticks: u64,
 ) -> bool
     requires case { IsCase set.now mode s.now }
-    requires links { links.now ≡ map (link_of (length (plain_at set.now mode).tasks)) (plain_at set.now mode).messages }
+    requires graph { graph.now ≡ graph_of (plain_at set.now mode) }
     requires ticks { ticks ≡ hyper (plain_at set.now mode) }
     requires limits { (1 ≤ ticks) × (ticks ≤ 1000000000000) }
     ensures { IsTrue result ↔ EntriesFit (plain_at set.now mode) s.now }
 {
     for message in 0..message_count(set, mode) {
-        let window = window_of(set, mode, s, links, message);
+        let window = window_of(set, mode, s, graph, message);
         if !entries_of(set, mode, s, window, ticks) {
             return false;
         }

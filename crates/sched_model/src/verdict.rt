@@ -1,22 +1,21 @@
 //! Whether a schedule is right.
 
-ghost use Rattle.std.specs.Prelude.{◌≡◌, ◌<◌, ◌≤◌, IfErr, OnOk, length, map};
+ghost use Rattle.std.specs.Prelude.{◌≡◌, ◌<◌, ◌≤◌, IfErr, OnOk, length};
 ghost use Rattle.app_graph.specs.Validation.{KeepsRules};
 ghost use Rattle.sched_model.specs.FirstBroken.{BreaksFirst};
 ghost use Rattle.sched_model.specs.Judged.{IsCase};
-ghost use Rattle.sched_model.specs.Links.{link_of};
+ghost use Rattle.sched_model.specs.Links.{graph_of};
 ghost use Rattle.sched_model.specs.PlainMode.{hyper, plain_at};
 ghost use Rattle.sched_model.specs.RightSchedule.{HasShape, IsSchedule};
 ghost use Rattle.sched_model.specs.TimeLimits.{HasTimes};
 
 use crate::chain_clause::chains_fit;
 use crate::laws::one_hyperperiod_decides;
-use crate::links::{Link, write_links};
+use crate::links::TaskGraph;
 use crate::message_clause::messages_fit;
 use crate::node_clause::nodes_fit;
 use crate::numbers::ticks_of;
 use crate::round_clauses::{gaps_fit, rounds_fit};
-use crate::rows::message_count;
 use crate::schedule::Schedule;
 use crate::table_clauses::{entries_fit, served_once};
 use crate::task_clause::offsets_fit;
@@ -27,11 +26,11 @@ fn first_broken(
     set: &ModeSet,
     mode: u32,
     s: &Schedule,
-    links: &[Link],
+    graph: &TaskGraph,
     ticks: u64,
 ) -> Result<(), u8>
     requires case { IsCase set.now mode s.now }
-    requires links { links.now ≡ map (link_of (length (plain_at set.now mode).tasks)) (plain_at set.now mode).messages }
+    requires graph { graph.now ≡ graph_of (plain_at set.now mode) }
     requires ticks { ticks ≡ hyper (plain_at set.now mode) }
     requires limits { (1 ≤ ticks) × (ticks ≤ 1000000000000) }
     ensures ok { OnOk result (IsSchedule (plain_at set.now mode) (length s.now.starts) s.now) }
@@ -44,22 +43,22 @@ fn first_broken(
     if !gaps_fit(set, mode, s, ticks) {
         return Err(2);
     }
-    if !offsets_fit(set, mode, s, links) {
+    if !offsets_fit(set, mode, s, graph) {
         return Err(3);
     }
-    if !messages_fit(set, mode, s, links) {
+    if !messages_fit(set, mode, s, graph) {
         return Err(4);
     }
-    if !chains_fit(set, mode, s, links) {
+    if !chains_fit(set, mode, s, graph) {
         return Err(5);
     }
     if !nodes_fit(set, mode, s) {
         return Err(6);
     }
-    if !served_once(set, mode, s, links, ticks) {
+    if !served_once(set, mode, s, graph, ticks) {
         return Err(7);
     }
-    if !entries_fit(set, mode, s, links, ticks) {
+    if !entries_fit(set, mode, s, graph, ticks) {
         return Err(8);
     }
     Ok(())
@@ -78,9 +77,6 @@ pub fn verify(set: &ModeSet, mode: u32, s: &Schedule) -> Result<(), u8>
     ensures ok { OnOk result (IsSchedule (plain_at set.now mode) (length s.now.starts) s.now) }
     ensures err { IfErr result (λ clause. BreaksFirst (plain_at set.now mode) s.now clause) }
 {
-    let mut room = [Link { from: 0, to: 0 }; 64];
-    let count = message_count(set, mode);
-    let links = &mut room[..count];
-    write_links(links, set, mode);
-    first_broken(set, mode, s, links, ticks_of(set, mode))
+    let graph = TaskGraph::of(set, mode);
+    first_broken(set, mode, s, &graph, ticks_of(set, mode))
 }

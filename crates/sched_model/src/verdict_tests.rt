@@ -147,7 +147,7 @@ fn shared_set(alloc: Global, wcet: Time) -> Result<ModeSet, AllocError>
 }
 
 /// The control loop with rounds at most 100 ticks apart.
-fn wide_loop(alloc: Global) -> Result<ModeSet, AllocError>
+pub(crate) fn wide_loop(alloc: Global) -> Result<ModeSet, AllocError>
     ensures { IfOk result (λ set. IsLoop set) }
 {
     loop_set(alloc, 100)

@@ -2,7 +2,6 @@ use Rattle.std.proofs.Common.{sym, ◌∙◌}
 use Rattle.sched_model.specs.PlainMode.{plain_at}
 use Rattle.sched_model.specs.Judged.{ChainsTo}
 use Rattle.sched_model.specs.TaskGraph.{last}
-use Rattle.sched_model.proofs.Sources.{last_is}
 use Rattle.sched_model.proofs.Passing.{under, not_under}
 use Rattle.sched_model.proofs.chain_clause.ends_chains.Goals as goal
 
@@ -10,10 +9,10 @@ pub returns-then-not-is_last : goal.returns-then-not-is_last
 returns-then-not-is_last c =
     let m = plain_at c.args.set.now c.args.mode in
     not_under (last m c.args.end) (ChainsTo m c.args.s.now c.args.end)
-    (sym (last_is m c.args.links.now c.args.end c.requires.end c.requires.few c.requires.links) ∙ sym c.is_last.ensures ∙ c.if-not-is_last.true)
+    (sym (c.is_last.ensures m c.requires.graph) ∙ c.if-not-is_last.true)
 
 pub returns : goal.returns
 returns c =
     let m = plain_at c.args.set.now c.args.mode in
     under c.chains_to.result (last m c.args.end) (ChainsTo m c.args.s.now c.args.end)
-    (sym (last_is m c.args.links.now c.args.end c.requires.end c.requires.few c.requires.links) ∙ sym c.is_last.ensures ∙ c.if-not-is_last.false) c.chains_to.ensures
+    (sym (c.is_last.ensures m c.requires.graph) ∙ c.if-not-is_last.false) c.chains_to.ensures

@@ -1,11 +1,7 @@
-use Rattle.std.proofs.Common.{length, get_or, ◌∙◌, arith, ap, unsigned_abs}
-use Rattle.std.proofs.lemmas.List.{get_or-map}
+use Rattle.std.proofs.Common.{◌∙◌, arith, ap, unsigned_abs}
 use Rattle.app_graph.specs.declared.mode_set.App.{App}
 use Rattle.app_graph.specs.declared.mode_set.Message.{Message}
-use Rattle.std.proofs.Common.{List}
-use Rattle.sched_model.specs.declared.links.Link.{Link}
-use Rattle.sched_model.specs.PlainMode.{plain_at, no_message}
-use Rattle.sched_model.specs.Links.{link_of}
+use Rattle.sched_model.specs.PlainMode.{plain_at}
 use Rattle.sched_model.proofs.RowPlaces.{how_many, message_shown}
 use Rattle.sched_model.proofs.message_clause.window_of.Goals as goal
 
@@ -24,7 +20,7 @@ returns-clause-shows c =
       opens = c.opens.ensures.value;
       closes = c.closes.ensures.value;
       period = period;
-      link = ap (λ (l : List Link). get_or l i (record { from = 0; to = 0 })) c.requires.links ∙ get_or-map (link_of (length m.tasks)) m.messages i no_message (record { from = 0; to = 0 }) c.requires.message;
+      link = c.link.ensures m c.requires.graph;
       opens_most = c.opens.ensures.most;
       closes_most = c.closes.ensures.most;
       period_some = omega (arith, period, shown.period_some);

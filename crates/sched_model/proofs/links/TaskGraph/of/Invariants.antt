@@ -1,7 +1,7 @@
 use Rattle.std.proofs.Common.{◌≡◌, length, map, take}
 use Rattle.sched_model.specs.PlainMode.{plain_at}
 use Rattle.sched_model.specs.Links.{link_of}
-use Rattle.sched_model.proofs.links.write_links.Given as goal
+use Rattle.sched_model.proofs.links.TaskGraph.of.Given as goal
 
 abbrev pub invariant-loop-place : goal.invariant-loop-place
 invariant-loop-place l = record {
