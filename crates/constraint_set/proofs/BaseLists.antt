@@ -14,7 +14,8 @@ use Rattle.std.proofs.lemmas.List.Elements.{Contains-get_or}
 use Rattle.sched_model.proofs.Graph.{message_edge}
 use Rattle.sched_model.proofs.Lists.{flat_below-suc, length-below, get_or-map_below}
 use Rattle.std.proofs.lemmas.List.{length-map, map-append}
-use Rattle.constraint_set.specs.Graph.{sources_in}
+use Rattle.sched_model.specs.declared.links.TaskSet.{TaskSet}
+use Rattle.sched_model.specs.Links.{sources_of}
 
 -- one part more
 pub below_step : {X : Type 0} (f : ℕ → List X) (n : ℕ) (start old new : List X) → old ≡ start ++ flat_map f (below n) → new ≡ old ++ f n → new ≡ start ++ flat_map f (below (n + 1))
@@ -90,11 +91,11 @@ two_parts m l0 l1 l2 e0 e1 e2 =
     e2 ∙ ap (λ (l : List Decision). l ++ flat_map (orders m) (below (length m.tasks))) (e1 ∙ ap (λ (l : List Decision). l ++ flat_map (serves m) (below (length m.messages))) e0)
 
 -- ---- the tasks that reach each task, as a list
-pub sources_length : (m : PlainMode) (xs : List ℕ) → xs ≡ map (sources_in m) (below (length m.tasks)) → length xs ≡ length m.tasks
-sources_length m xs e = ap length e ∙ length-map (below (length m.tasks)) (sources_in m) ∙ length-below (length m.tasks)
+pub sources_length : (m : PlainMode) (xs : List TaskSet) → xs ≡ map (sources_of m) (below (length m.tasks)) → length xs ≡ length m.tasks
+sources_length m xs e = ap length e ∙ length-map (below (length m.tasks)) (sources_of m) ∙ length-below (length m.tasks)
 
-pub sources_at : (m : PlainMode) (xs : List ℕ) (i : ℕ) → xs ≡ map (sources_in m) (below (length m.tasks)) → i < length m.tasks → get_or xs i 0 ≡ sources_in m i
-sources_at m xs i e l = ap (λ (ys : List ℕ). get_or ys i 0) e ∙ get_or-map_below (sources_in m) (length m.tasks) i 0 l
+pub sources_at : (m : PlainMode) (xs : List TaskSet) (i : ℕ) (d : TaskSet) → xs ≡ map (sources_of m) (below (length m.tasks)) → i < length m.tasks → get_or xs i d ≡ sources_of m i
+sources_at m xs i d e l = ap (λ (ys : List TaskSet). get_or ys i d) e ∙ get_or-map_below (sources_of m) (length m.tasks) i d l
 
 pub message_some : (m : PlainMode) (i : ℕ) → IsValid m → i < length m.messages → 0 < (message_at m i).period
 message_some m i ok l = let p = ok.periods _ (ok.message_period i l) in omega (arith, p)

@@ -1,5 +1,4 @@
 mod FlatLists
-mod Sources
 mod BaseLists
 mod Bounded
 mod Loadings

@@ -2,18 +2,16 @@
 
 ghost use Rattle.std.specs.Prelude.{◌≡◌, [], ◌∷◌, ◌++◌, ◌-◌, ◌<◌, ◌≤◌, All, IfOk, length, map};
 ghost use Rattle.std.specs.List.{flat_map};
-ghost use Rattle.app_graph.specs.Masks.{mask_of};
 ghost use Rattle.sched_model.specs.Numbers.{below};
 ghost use Rattle.sched_model.specs.PlainMode.{hyper};
-ghost use Rattle.sched_model.specs.TaskGraph.{reaches};
 ghost use Rattle.sched_model.specs.ConstraintProblem.{base, closes_var, next_round, of_chain, of_consumer, of_first, of_message, of_producer, of_task, opens_var, turn};
+ghost use Rattle.sched_model.specs.Links.{graph_of, sources_of};
 ghost use Rattle.sched_model.specs.ModeLimits.{IsLimited};
 ghost use Rattle.sched_model.specs.ValidMode.{IsValid};
-ghost use Rattle.constraint_set.specs.Graph.{sources_in};
 
 use crate::bounds::{at_least, at_most, at_most_less};
 use crate::flat::FlatMode;
-use crate::graph::{is_first, is_last, is_source, make_links, sources};
+use sched_model::{TaskGraph, TaskSet};
 use std::alloc::{AllocError, Global};
 use tick_num::Diff;
 
@@ -99,15 +97,22 @@ fn add_turn(
 
 /// Adds the constraints of the task's first start.
 #[tactic(auto, using(crate::proofs::BaseLists::task_times))]
-fn add_task(list: &mut Vec<Diff>, mode: &FlatMode, rounds: u32, task: u32) -> Result<(), AllocError>
+fn add_task(
+    list: &mut Vec<Diff>,
+    mode: &FlatMode,
+    graph: &TaskGraph,
+    rounds: u32,
+    task: u32,
+) -> Result<(), AllocError>
     requires limits { IsLimited mode.now }
     requires valid { IsValid mode.now }
+    requires graph { graph.now ≡ graph_of mode.now }
     requires rounds { rounds ≤ 256 }
     requires task { task < length mode.now.tasks }
     ensures { IfOk result (λ _. list.new.items ≡ list.old.items ++ of_task mode.now rounds task) }
 {
     let start = at_most(0, rounds + task, 0);
-    if !is_first(mode, task) {
+    if !graph.is_first(task as usize) {
         add_one(list, start)?;
         return Ok(());
     }
@@ -117,14 +122,20 @@ fn add_task(list: &mut Vec<Diff>, mode: &FlatMode, rounds: u32, task: u32) -> Re
 }
 
 /// Adds the constraints of the tasks' first starts.
-fn add_tasks(list: &mut Vec<Diff>, mode: &FlatMode, rounds: u32) -> Result<(), AllocError>
+fn add_tasks(
+    list: &mut Vec<Diff>,
+    mode: &FlatMode,
+    graph: &TaskGraph,
+    rounds: u32,
+) -> Result<(), AllocError>
     requires limits { IsLimited mode.now }
     requires valid { IsValid mode.now }
+    requires graph { graph.now ≡ graph_of mode.now }
     requires rounds { rounds ≤ 256 }
     ensures { IfOk result (λ _. list.new.items ≡ list.old.items ++ flat_map (of_task mode.now rounds) (below (length mode.now.tasks))) }
 {
     for task in 0..mode.task_count() {
-        add_task(list, mode, rounds, task)?;
+        add_task(list, mode, graph, rounds, task)?;
     }
     Ok(())
 }
@@ -266,14 +277,18 @@ fn add_messages(list: &mut Vec<Diff>, mode: &FlatMode, rounds: u32) -> Result<()
 }
 
 /// The tasks that reach each task, in file order.
-fn sources_of(alloc: Global, mode: &FlatMode) -> Result<Vec<u128>, AllocError>
-    requires { length mode.now.tasks ≤ 128 }
-    ensures { IfOk result (λ v. v.items ≡ map (sources_in mode.now) (below (length mode.now.tasks))) }
+fn all_sources(
+    alloc: Global,
+    mode: &FlatMode,
+    graph: &TaskGraph,
+) -> Result<Vec<TaskSet>, AllocError>
+    requires few { length mode.now.tasks ≤ 128 }
+    requires graph { graph.now ≡ graph_of mode.now }
+    ensures { IfOk result (λ v. v.items ≡ map (sources_of mode.now) (below (length mode.now.tasks))) }
 {
-    let links = make_links(alloc, mode)?;
     let mut all = Vec::new(alloc);
     for target in 0..mode.task_count() {
-        all.push(sources(mode, links.as_slice(), target))?;
+        all.push(graph.sources(target as usize))?;
     }
     Ok(all)
 }
@@ -283,23 +298,25 @@ fn sources_of(alloc: Global, mode: &FlatMode) -> Result<Vec<u128>, AllocError>
 fn add_chain(
     list: &mut Vec<Diff>,
     mode: &FlatMode,
+    graph: &TaskGraph,
     rounds: u32,
     start: u32,
     end: u32,
-    sources: u128,
+    sources: TaskSet,
 ) -> Result<(), AllocError>
     requires limits { IsLimited mode.now }
     requires valid { IsValid mode.now }
+    requires graph { graph.now ≡ graph_of mode.now }
     requires rounds { rounds ≤ 256 }
     requires start { start < length mode.now.tasks }
     requires end { end < length mode.now.tasks }
-    requires sources { sources ≡ sources_in mode.now end }
+    requires sources { sources ≡ sources_of mode.now end }
     ensures { IfOk result (λ _. list.new.items ≡ list.old.items ++ of_chain mode.now rounds start end) }
 {
-    if !is_last(mode, end) {
+    if !graph.is_last(end as usize) {
         return Ok(());
     }
-    if !is_source(mode, sources, start, end) {
+    if !sources.has(start as usize) {
         return Ok(());
     }
     let deadline = mode.task(start).deadline();
@@ -315,19 +332,21 @@ fn add_chain(
 fn add_chains_of(
     list: &mut Vec<Diff>,
     mode: &FlatMode,
+    graph: &TaskGraph,
     rounds: u32,
     start: u32,
-    sources: &[u128],
+    sources: &[TaskSet],
 ) -> Result<(), AllocError>
     requires limits { IsLimited mode.now }
     requires valid { IsValid mode.now }
+    requires graph { graph.now ≡ graph_of mode.now }
     requires rounds { rounds ≤ 256 }
     requires start { start < length mode.now.tasks }
-    requires sources { sources.now ≡ map (sources_in mode.now) (below (length mode.now.tasks)) }
+    requires sources { sources.now ≡ map (sources_of mode.now) (below (length mode.now.tasks)) }
     ensures { IfOk result (λ _. list.new.items ≡ list.old.items ++ flat_map (of_chain mode.now rounds start) (below (length mode.now.tasks))) }
 {
     for end in 0..mode.task_count() {
-        add_chain(list, mode, rounds, start, end, sources[end as usize])?;
+        add_chain(list, mode, graph, rounds, start, end, sources[end as usize])?;
     }
     Ok(())
 }
@@ -336,19 +355,21 @@ fn add_chains_of(
 fn add_first(
     list: &mut Vec<Diff>,
     mode: &FlatMode,
+    graph: &TaskGraph,
     rounds: u32,
     start: u32,
-    sources: &[u128],
+    sources: &[TaskSet],
 ) -> Result<(), AllocError>
     requires limits { IsLimited mode.now }
     requires valid { IsValid mode.now }
+    requires graph { graph.now ≡ graph_of mode.now }
     requires rounds { rounds ≤ 256 }
     requires start { start < length mode.now.tasks }
-    requires sources { sources.now ≡ map (sources_in mode.now) (below (length mode.now.tasks)) }
+    requires sources { sources.now ≡ map (sources_of mode.now) (below (length mode.now.tasks)) }
     ensures { IfOk result (λ _. list.new.items ≡ list.old.items ++ of_first mode.now rounds start) }
 {
-    if is_first(mode, start) {
-        add_chains_of(list, mode, rounds, start, sources)?;
+    if graph.is_first(start as usize) {
+        add_chains_of(list, mode, graph, rounds, start, sources)?;
         return Ok(());
     }
     Ok(())
@@ -358,17 +379,19 @@ fn add_first(
 fn add_chains(
     list: &mut Vec<Diff>,
     mode: &FlatMode,
+    graph: &TaskGraph,
     rounds: u32,
-    sources: &[u128],
+    sources: &[TaskSet],
 ) -> Result<(), AllocError>
     requires limits { IsLimited mode.now }
     requires valid { IsValid mode.now }
+    requires graph { graph.now ≡ graph_of mode.now }
     requires rounds { rounds ≤ 256 }
-    requires sources { sources.now ≡ map (sources_in mode.now) (below (length mode.now.tasks)) }
+    requires sources { sources.now ≡ map (sources_of mode.now) (below (length mode.now.tasks)) }
     ensures { IfOk result (λ _. list.new.items ≡ list.old.items ++ flat_map (of_first mode.now rounds) (below (length mode.now.tasks))) }
 {
     for start in 0..mode.task_count() {
-        add_first(list, mode, rounds, start, sources)?;
+        add_first(list, mode, graph, rounds, start, sources)?;
     }
     Ok(())
 }
@@ -377,21 +400,23 @@ fn add_chains(
 pub(crate) fn make_base(
     alloc: Global,
     mode: &FlatMode,
+    graph: &TaskGraph,
     rounds: u32,
     ticks: u64,
 ) -> Result<Vec<Diff>, AllocError>
     requires limits { IsLimited mode.now }
     requires valid { IsValid mode.now }
+    requires graph { graph.now ≡ graph_of mode.now }
     requires rounds { (1 ≤ rounds) × (rounds ≤ 256) }
     requires ticks { ticks ≡ hyper mode.now }
     ensures { IfOk result (λ v. v.items ≡ base mode.now rounds) }
 {
-    let sources = sources_of(alloc, mode)?;
+    let sources = all_sources(alloc, mode, graph)?;
     let mut list = Vec::new(alloc);
     add_rounds(&mut list, mode, rounds)?;
     add_turn(&mut list, mode, rounds, ticks)?;
-    add_tasks(&mut list, mode, rounds)?;
+    add_tasks(&mut list, mode, graph, rounds)?;
     add_messages(&mut list, mode, rounds)?;
-    add_chains(&mut list, mode, rounds, sources.as_slice())?;
+    add_chains(&mut list, mode, graph, rounds, sources.as_slice())?;
     Ok(list)
 }

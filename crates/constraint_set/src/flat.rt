@@ -2,10 +2,11 @@
 
 ghost use Rattle.std.specs.Prelude.{◌≡◌, ◌+◌, ◌^◌, ◌<◌, ◌≤◌, ◌++◌, IfOk, length, map, unsigned_abs};
 ghost use Rattle.std.specs.List.{flat_map};
-ghost use Rattle.sched_model.specs.PlainMode.{message_at, mode_at, plain_at, plain_task, task_at, tasks_of};
+ghost use Rattle.sched_model.specs.PlainMode.{message_at, plain_at, plain_task, task_at, tasks_of};
 ghost use Rattle.constraint_set.specs.Flat.{message_in, mode_with, place_in, task_in};
 
 use app_graph::{App, Message, ModeSet, Task};
+use sched_model::{apps_of, deadline_of, period_of};
 use std::alloc::{AllocError, Global};
 use std::marker::Model;
 
@@ -91,8 +92,8 @@ fn make_task(place: usize, app: &App, task: &Task) -> FlatTask
         app: place,
         node: task.node,
         wcet: task.wcet.unsigned_abs(),
-        period: app.period.unsigned_abs(),
-        deadline: app.deadline.unsigned_abs(),
+        period: period_of(app),
+        deadline: deadline_of(app),
     }
 }
 
@@ -153,8 +154,8 @@ fn make_message(
 {
     Ok(FlatMessage {
         number: message.number,
-        period: app.period.unsigned_abs(),
-        deadline: app.deadline.unsigned_abs(),
+        period: period_of(app),
+        deadline: deadline_of(app),
         from: find_tasks(alloc, tasks, message.from.as_slice())?,
         to: find_tasks(alloc, tasks, message.to.as_slice())?,
     })
@@ -192,13 +193,6 @@ fn make_messages(
     Ok(messages)
 }
 
-/// The period of the application.
-fn period_of(app: &App) -> u64
-    ensures { result ≡ unsigned_abs app.now.period }
-{
-    app.period.unsigned_abs()
-}
-
 /// The periods of the applications, in file order.
 fn make_periods(alloc: Global, apps: &[App]) -> Result<Vec<u64>, AllocError>
     ensures { IfOk result (λ v. v.items ≡ map (λ a. unsigned_abs a.period) apps.now) }
@@ -208,14 +202,6 @@ fn make_periods(alloc: Global, apps: &[App]) -> Result<Vec<u64>, AllocError>
         periods.push(period_of(app))?;
     }
     Ok(periods)
-}
-
-/// The applications of a mode.
-fn apps_of(set: &ModeSet, mode: u32) -> &[App]
-    requires { mode < length set.now.modes }
-    ensures { result.now ≡ (mode_at set.now mode).apps }
-{
-    set.modes.as_slice()[mode as usize].apps.as_slice()
 }
 
 /// A mode of the set's network with these periods, tasks and messages.

@@ -6,7 +6,6 @@ mod bounds;
 mod choices;
 mod decisions;
 mod flat;
-mod graph;
 pub mod laws;
 mod loads;
 mod problem;

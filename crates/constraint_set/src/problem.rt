@@ -19,7 +19,7 @@ use crate::flat::{FlatMode, flatten};
 use crate::loads::{first_overfull, round_named};
 use crate::schedule::make_schedule;
 use app_graph::ModeSet;
-use sched_model::{Schedule, hyper, instances};
+use sched_model::{Schedule, TaskGraph, hyper, instances};
 use std::alloc::{AllocError, Global};
 use std::marker::Model;
 use tick_num::{Diff, Time};
@@ -67,7 +67,8 @@ impl Problem {
         let ticks = ticks_of(set, mode);
         let count = instances(set, mode);
         let rounds = rounds as u32;
-        let base = make_base(alloc, &flat, rounds, ticks)?;
+        let graph = TaskGraph::of(set, mode);
+        let base = make_base(alloc, &flat, &graph, rounds, ticks)?;
         let decisions = make_decisions(alloc, &flat, ticks)?;
         Ok(Problem {
             mode: flat,

@@ -10,4 +10,4 @@ pub bounds-sources-end : goal.bounds-sources-end
 bounds-sources-end c = omega (arith, sources_length c.args.mode.now c.args.sources.now c.requires.sources)
 
 pub add_chain-requires-clause-sources : goal.add_chain-requires-clause-sources
-add_chain-requires-clause-sources c = sources_at c.args.mode.now c.args.sources.now c.loop-end.end c.requires.sources (omega arith)
+add_chain-requires-clause-sources c = sources_at c.args.mode.now c.args.sources.now c.loop-end.end _ c.requires.sources (omega arith)
