@@ -17,15 +17,15 @@ use Rattle.tick_num.specs.Differences.{LeastValues, listed}
 use Rattle.std.specs.Prelude.{Result, Ok, Err, IfOk, Option, Some, None}
 use Rattle.branch_search.specs.declared.walk.Next.{Next}
 use Rattle.branch_search.specs.declared.walk.Next.TheVariants as nexts
-use Rattle.branch_search.specs.Coming.{IsStep, Comes, Benched, CountedFor}
+use Rattle.branch_search.specs.Coming.{IsStep, Comes, Benched, TallyFor}
 use Rattle.branch_search.proofs.Forces.{serves_next}
 use Rattle.sched_model.specs.RefutationTree.{Node, branch, cycle, node_of, IsStored, Roomy, OwnTree}
 use Rattle.branch_search.specs.Stacks.{Step, Due, Complete, next_due, Follows}
-use Rattle.branch_search.specs.Loads.{Counted}
+use Rattle.constraint_set.specs.Loads.{Tally, tally_of}
 use Rattle.branch_search.specs.Walking.{Whole, Reached, Standing, Fits, Sees}
 use Rattle.branch_search.proofs.Numbered.{span_none}
 use Rattle.branch_search.proofs.Walks.{After, entered, comes_next, ended, no_children, is_first, full_found, level_at}
-use Rattle.branch_search.proofs.Tallies.{counted_next}
+use Rattle.branch_search.proofs.Tallies.{tally_next}
 
 drop_front : (n : ℕ) (xs ys : List ℕ) → n ≤ length xs → drop n (xs ++ ys) ≡ drop n xs ++ ys
 drop_front zero xs ys l = refl
@@ -183,10 +183,9 @@ module _ (m : PlainMode) (r : ℕ) where
       without [] none = λ q l. omega (arith, unnamed q (decisions m))
       without (v ∷ p) none = absurd (omega (arith, none))
 
-  -- the counts of the rounds at the next prefix
-  pub counted_comes : {E : Type 0} (p q h : List ℤ) (counts : List ℕ) (named : List (Option ℕ)) (n : ℕ) (nodes' : List TreeNode) (refs' : List ℕ) (result : Result Next E) → IfOk result (λ next. Comes m r p n q h nodes' refs' next) →
-      Counted m r (length p) p counts named → IfOk result (λ next. CountedFor m r q counts named next)
-  counted_comes p q h counts named n nodes' refs' (Ok nexts.Due) w c = counted_next m r p q counts named c w.1
-  counted_comes p q h counts named n nodes' refs' (Ok nexts.Refuted) w c = tt
-  counted_comes p q h counts named n nodes' refs' (Ok nexts.Found) w c = tt
-  counted_comes p q h counts named n nodes' refs' (Err x) w c = tt
+  -- the loads of the rounds at the next prefix
+  pub tally_comes : {E : Type 0} (p q h : List ℤ) (loads : Tally) (n : ℕ) (nodes' : List TreeNode) (refs' : List ℕ) (result : Result Next E) → IfOk result (λ next. Comes m r p n q h nodes' refs' next) → loads ≡ tally_of m r p → IfOk result (λ next. TallyFor m r q loads next)
+  tally_comes p q h loads n nodes' refs' (Ok nexts.Due) w e = tally_next m r p q loads e w.1
+  tally_comes p q h loads n nodes' refs' (Ok nexts.Refuted) w e = tt
+  tally_comes p q h loads n nodes' refs' (Ok nexts.Found) w e = tt
+  tally_comes p q h loads n nodes' refs' (Err x) w e = tt

@@ -1,5 +1,5 @@
 -- From the loop of the search to its answers
-use Rattle.std.proofs.Common.{◌≡◌, ℕ, suc, ◌+◌, ◌-◌, ◌*◌, ◌<◌, ◌≤◌, List, [], length, map, All, Option, refl, sym, ◌∙◌, ap, subst, arith, ℤ}
+use Rattle.std.proofs.Common.{◌≡◌, ℕ, suc, ◌+◌, ◌-◌, ◌*◌, ◌<◌, ◌≤◌, List, [], length, map, All, refl, sym, ◌∙◌, ap, subst, arith, ℤ}
 use Rattle.std.proofs.lemmas.List.{length-map, take_all}
 use Rattle.tick_num.specs.declared.differences.Diff.{Diff}
 use Rattle.tick_num.specs.Differences.{LeastValues, listed}
@@ -13,55 +13,55 @@ use Rattle.sched_model.proofs.Refutations.{own_valid}
 use Rattle.sched_model.proofs.OwnTrees.{tree_count, tree_excludes}
 use Rattle.branch_search.specs.declared.canonical.Answer.{Answer}
 use Rattle.branch_search.specs.declared.canonical.Answer.TheVariants.{Found, Refuted, Spent}
-use Rattle.branch_search.specs.Walking.{Standing, Fronts, Fits}
+use Rattle.branch_search.specs.Walking.{Standing, Fronts, FrontTally, Fits}
 use Rattle.branch_search.specs.Answers.{IsAnswer, HasTree, HasList}
 use Rattle.branch_search.specs.declared.walk.Next.{Next}
 use Rattle.branch_search.specs.declared.walk.Next.TheVariants as nexts
-use Rattle.branch_search.specs.Coming.{Comes, Benched, CountedFor}
+use Rattle.branch_search.specs.Coming.{Comes, Benched, TallyFor}
 use Rattle.branch_search.proofs.Walks.{more_due}
 use Rattle.branch_search.proofs.Forces.{base_alone}
-use Rattle.branch_search.specs.Loads.{Tallied, Counted}
-use Rattle.branch_search.proofs.Tallies.{counted_first}
+use Rattle.constraint_set.specs.Loads.{Tally, tally_of}
+use Rattle.branch_search.proofs.Tallies.{tally_first}
 use Rattle.branch_search.proofs.Comings.{root_stands}
 
 -- what is known before each visit
-pub record Ready (m : PlainMode) (r : ℕ) (p g : List ℤ) (nodes : List TreeNode) (refs : List ℕ) (list : List Diff) (counts : List ℕ) (named : List (Option ℕ)) (v c n : ℕ) : Type 0 where
+pub record Ready (m : PlainMode) (r : ℕ) (p g : List ℤ) (nodes : List TreeNode) (refs : List ℕ) (list : List Diff) (loads : Tally) (v c n : ℕ) : Type 0 where
   pub standing : Standing m r p g nodes refs
   pub fronts : Fronts m r p list
-  pub counted : Counted m r (length p - 1) p counts named
+  pub tally : FrontTally m r p loads
   pub variables : v ≡ vars m r
   pub room : c ≡ length (base m r) + 2 * length (decisions m)
   pub limit : c ≤ 131_072
   pub count : length nodes ≡ n
 
 module _ (m : PlainMode) (r : ℕ) where
-  ready_root : (list : List Diff) (counts : List ℕ) (named : List (Option ℕ)) (v c : ℕ) → list ≡ base m r → All (Fits (vars m r)) list → Tallied counts named → r ≤ length counts → v ≡ vars m r → c ≡ length (base m r) + 2 * length (decisions m) → c ≤ 131_072 → Ready m r [] [] [] [] list counts named v c 0
-  ready_root list counts named v c e f t k ev ec l = record {
+  ready_root : (list : List Diff) (loads : Tally) (v c : ℕ) → list ≡ base m r → All (Fits (vars m r)) list → loads ≡ tally_of m r [] → v ≡ vars m r → c ≡ length (base m r) + 2 * length (decisions m) → c ≤ 131_072 → Ready m r [] [] [] [] list loads v c 0
+  ready_root list loads v c e f t ev ec l = record {
     standing = root_stands m r;
     fronts = record { front = take_all (length (base m r) + 2 * (0 - 1)) list (omega (arith, ap (λ (x : List Diff). length x) e)) ∙ e ∙ sym (base_alone m r); fits = f };
-    counted = counted_first m r [] counts named refl k t;
+    tally = tally_first m r loads t;
     variables = ev;
     room = ec;
     limit = l;
     count = refl;
   }
 
-  pub ready_first : (p g : List ℤ) (nodes : List TreeNode) (refs : List ℕ) (list : List Diff) (counts : List ℕ) (named : List (Option ℕ)) (v c : ℕ) → p ≡ [] → g ≡ [] → nodes ≡ [] → refs ≡ [] → list ≡ base m r → All (Fits (vars m r)) list → Tallied counts named → r ≤ length counts → v ≡ vars m r → c ≡ length (base m r) + 2 * length (decisions m) → c ≤ 131_072 →
-      Ready m r p g nodes refs list counts named v c 0
-  ready_first p g nodes refs list counts named v c ep eg en er e f t k ev ec l =
-      subst (λ (x : List ℤ). Ready m r x g nodes refs list counts named v c 0) (sym ep)
-      (subst (λ (x : List ℤ). Ready m r [] x nodes refs list counts named v c 0) (sym eg)
-      (subst (λ (x : List TreeNode). Ready m r [] [] x refs list counts named v c 0) (sym en)
-      (subst (λ (x : List ℕ). Ready m r [] [] [] x list counts named v c 0) (sym er) (ready_root list counts named v c e f t k ev ec l))))
+  pub ready_first : (p g : List ℤ) (nodes : List TreeNode) (refs : List ℕ) (list : List Diff) (loads : Tally) (v c : ℕ) → p ≡ [] → g ≡ [] → nodes ≡ [] → refs ≡ [] → list ≡ base m r → All (Fits (vars m r)) list → loads ≡ tally_of m r [] → v ≡ vars m r → c ≡ length (base m r) + 2 * length (decisions m) → c ≤ 131_072 →
+      Ready m r p g nodes refs list loads v c 0
+  ready_first p g nodes refs list loads v c ep eg en er e f t ev ec l =
+      subst (λ (x : List ℤ). Ready m r x g nodes refs list loads v c 0) (sym ep)
+      (subst (λ (x : List ℤ). Ready m r [] x nodes refs list loads v c 0) (sym eg)
+      (subst (λ (x : List TreeNode). Ready m r [] [] x refs list loads v c 0) (sym en)
+      (subst (λ (x : List ℕ). Ready m r [] [] [] x list loads v c 0) (sym er) (ready_root list loads v c e f t ev ec l))))
 
-  pub ready_next : (p g q h : List ℤ) (nodes nodes' : List TreeNode) (refs refs' : List ℕ) (list list' : List Diff) (counts counts' : List ℕ) (named named' : List (Option ℕ)) (values : List ℤ) (v c v' c' n : ℕ) (next : Next) → Ready m r p g nodes refs list counts named v c n → Comes m r p (length nodes) q h nodes' refs' next → Benched m r q list' values next → CountedFor m r q counts' named' next → next ≡ nexts.Due → v' ≡ v → c' ≡ c →
-      Ready m r q h nodes' refs' list' counts' named' v' c' (n + 1)
-  ready_next p g q h nodes nodes' refs refs' list list' counts counts' named named' values v c v' c' n next s a b d is ev ec =
+  pub ready_next : (p g q h : List ℤ) (nodes nodes' : List TreeNode) (refs refs' : List ℕ) (list list' : List Diff) (loads loads' : Tally) (values : List ℤ) (v c v' c' n : ℕ) (next : Next) → Ready m r p g nodes refs list loads v c n → Comes m r p (length nodes) q h nodes' refs' next → Benched m r q list' values next → TallyFor m r q loads' next → next ≡ nexts.Due → v' ≡ v → c' ≡ c →
+      Ready m r q h nodes' refs' list' loads' v' c' (n + 1)
+  ready_next p g q h nodes nodes' refs refs' list list' loads loads' values v c v' c' n next s a b d is ev ec =
       let w = subst (Comes m r p (length nodes) q h nodes' refs') is a in
       record {
         standing = w.0;
         fronts = subst (Benched m r q list' values) is b;
-        counted = subst (CountedFor m r q counts' named') is d;
+        tally = subst (TallyFor m r q loads') is d;
         variables = ev ∙ s.variables;
         room = ec ∙ s.room;
         limit = omega (arith, ec, s.limit);

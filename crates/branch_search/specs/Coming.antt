@@ -1,5 +1,5 @@
 -- What comes after a visited prefix
-use Rattle.std.specs.Prelude.{◌≡◌, ℕ, suc, ◌-◌, Option, List, length, ℤ, ⊤}
+use Rattle.std.specs.Prelude.{◌≡◌, ℕ, suc, List, length, ℤ, ⊤}
 use Rattle.tick_num.specs.declared.differences.Diff.{Diff}
 use Rattle.tick_num.specs.Differences.{LeastValues, listed}
 use Rattle.sched_model.specs.declared.trees.TreeNode.{TreeNode}
@@ -10,8 +10,8 @@ use Rattle.sched_model.specs.PrintedSchedule.{FirstList}
 use Rattle.sched_model.specs.RefutationTree.{OwnTree}
 use Rattle.branch_search.specs.Stacks.{Step, Follows}
 use Rattle.branch_search.specs.Stacks as steps
-use Rattle.branch_search.specs.Loads.{Counted}
-use Rattle.branch_search.specs.Walking.{Standing, Fronts}
+use Rattle.constraint_set.specs.Loads.{Tally}
+use Rattle.branch_search.specs.Walking.{Standing, Fronts, FrontTally}
 use Rattle.branch_search.specs.declared.walk.Next.{Next}
 use Rattle.branch_search.specs.declared.walk.Next.TheVariants.{Due, Found, Refuted}
 
@@ -33,8 +33,8 @@ Benched m r prefix list values Due = Fronts m r prefix list
 Benched m r prefix list values Found = LeastValues (in_force m r prefix) (listed values) × (length values ≡ vars m r)
 Benched m r prefix list values Refuted = ⊤
 
--- what the counts of the rounds are then
-abbrev pub CountedFor : PlainMode → ℕ → List ℤ → List ℕ → List (Option ℕ) → Next → Type 0
-CountedFor m r prefix counts named Due = Counted m r (length prefix - 1) prefix counts named
-CountedFor m r prefix counts named Found = ⊤
-CountedFor m r prefix counts named Refuted = ⊤
+-- what the loads of the rounds are then
+abbrev pub TallyFor : PlainMode → ℕ → List ℤ → Tally → Next → Type 0
+TallyFor m r prefix loads Due = FrontTally m r prefix loads
+TallyFor m r prefix loads Found = ⊤
+TallyFor m r prefix loads Refuted = ⊤

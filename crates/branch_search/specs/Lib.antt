@@ -1,5 +1,4 @@
 pub mod Stacks
 pub mod Walking
-pub mod Loads
 pub mod Coming
 pub mod Answers

@@ -9,6 +9,7 @@ use Rattle.sched_model.specs.ConstraintProblem.{vars, base, alternatives, decisi
 use Rattle.sched_model.specs.OpenPrefix.{Open}
 use Rattle.sched_model.specs.RefutationTree.{Node, branch, EachOf, OwnFrom, node_of, IsStored}
 use Rattle.diff_solver.specs.Bounds.{Small}
+use Rattle.constraint_set.specs.Loads.{Tally, first, tally_of}
 use Rattle.branch_search.specs.Stacks.{at_}
 
 -- the nodes are an own tree of p, whatever nodes come after; n decisions are left
@@ -48,6 +49,10 @@ Fits n d = (d.x < n) × (d.y < n) × Small d
 pub record Fronts (m : PlainMode) (r : ℕ) (prefix : List ℤ) (list : List Diff) : Type 0 where
   pub front : take (length (base m r) + 2 * (length prefix - 1)) list ≡ in_force m r (take (length prefix - 1) prefix)
   pub fits : All (Fits (vars m r)) list
+
+-- the loads of the rounds begin with those of the choices before the last one of the prefix
+abbrev pub FrontTally : PlainMode → ℕ → List ℤ → Tally → Type 0
+FrontTally m r prefix loads = first (length prefix - 1) loads ≡ tally_of m r (take (length prefix - 1) prefix)
 
 -- the node is a leaf at the prefix
 abbrev pub IsLeaf : PlainMode → ℕ → List ℤ → Node → Type 0

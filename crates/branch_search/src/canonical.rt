@@ -1,16 +1,16 @@
 //! The search over an explicit stack.
 
-ghost use Rattle.std.specs.Prelude.{◌≡◌, ◌+◌, ◌*◌, ◌≤◌, length, All, IfOk};
+ghost use Rattle.std.specs.Prelude.{◌≡◌, ◌+◌, ◌*◌, [], length, ◌≤◌, All, IfOk};
 ghost use Rattle.sched_model.specs.ConstraintProblem.{vars, base, decisions};
-ghost use Rattle.branch_search.specs.Loads.{Tallied};
+ghost use Rattle.constraint_set.specs.Loads.{tally_of};
 ghost use Rattle.branch_search.specs.Walking.{Fits};
 ghost use Rattle.branch_search.specs.Answers.{HasList, HasTree, IsAnswer};
 
-use crate::loads::Loads;
 use crate::posed::Posed;
 use crate::seeing::Bench;
 use crate::walk::{Next, Walk, visit};
 use app_graph::ListOf;
+use constraint_set::Loads;
 use diff_solver::Work;
 use proof_tree::Tree;
 use std::alloc::{AllocError, Global};
@@ -34,13 +34,11 @@ pub enum Answer {
     Spent,
 }
 
-/// The base list, and room for the longest list of constraints and for all choices. The starts of the rounds are the first
-/// of the variables, so that a count for each variable has one for each round.
+/// The base list, and room for the longest list of constraints and for all choices.
 fn prepare<P: Posed>(alloc: Global, problem: &P) -> Result<Bench, AllocError>
     ensures list { IfOk result (λ b. b.constraints.items ≡ base (P.mode problem.now) (P.rounds problem.now)) }
     ensures fits { IfOk result (λ b. All (Fits (vars (P.mode problem.now) (P.rounds problem.now))) b.constraints.items) }
-    ensures counts { IfOk result (λ b. Tallied b.loads.counts.items b.loads.named.items) }
-    ensures rounds { IfOk result (λ b. P.rounds problem.now ≤ length b.loads.counts.items) }
+    ensures tally { IfOk result (λ b. b.loads ≡ tally_of (P.mode problem.now) (P.rounds problem.now) []) }
     ensures variables { IfOk result (λ b. b.work.variables ≡ vars (P.mode problem.now) (P.rounds problem.now)) }
     ensures room { IfOk result (λ b. b.work.constraints ≡ length (base (P.mode problem.now) (P.rounds problem.now)) + 2 * length (decisions (P.mode problem.now))) }
     ensures limit { IfOk result (λ b. b.work.constraints ≤ 131_072) }
@@ -49,7 +47,7 @@ fn prepare<P: Posed>(alloc: Global, problem: &P) -> Result<Bench, AllocError>
     let room = base.len() + 2 * problem.decisions();
     let constraints = Vec::from_slice(alloc, base)?;
     let work = Work::reserve(alloc, problem.vars(), room)?;
-    let loads = Loads::reserve(alloc, problem.vars() as usize, problem.decisions())?;
+    let loads = Loads::reserve(alloc, problem.rounds(), problem.decisions())?;
     Ok(Bench {
         constraints,
         work,

@@ -2,7 +2,6 @@
 #![tactic(auto)]
 
 mod canonical;
-mod loads;
 mod posed;
 mod problems;
 mod seeing;

@@ -1,11 +1,11 @@
 //! What a search asks of a constraint problem.
 
-ghost use Rattle.std.specs.Prelude.{◌≡◌, ℕ, ◌+◌, ◌-◌, ◌*◌, ◌<◌, ◌≤◌, ◌↔◌, List, [], ◌∷◌, length, slice_index_or, All, ℤ, pos, IsTrue, IfNone, IfSome};
+ghost use Rattle.std.specs.Prelude.{◌≡◌, ℕ, ◌+◌, ◌-◌, ◌*◌, ◌<◌, ◌≤◌, ◌↔◌, List, [], ◌∷◌, length, slice_index_or, All, ℤ, pos, IsTrue};
 ghost use Rattle.sched_model.specs.Numbers.{span};
 ghost use Rattle.sched_model.specs.PlainMode.{PlainMode, instances};
 ghost use Rattle.sched_model.specs.ConstraintProblem.{vars, base, alternatives, decisions, chosen, order};
 ghost use Rattle.sched_model.specs.OpenPrefix.{Chosen};
-ghost use Rattle.constraint_set.specs.Decided.{NamesNone, NamesRound};
+ghost use Rattle.constraint_set.specs.Loads.{Within, round_of};
 ghost use Rattle.branch_search.specs.Walking.{Fits};
 
 use tick_num::Diff;
@@ -15,6 +15,10 @@ pub trait Posed {
     ghost mode: { Self → PlainMode };
 
     ghost rounds: { Self → ℕ };
+
+    /// The number of rounds in a hyperperiod.
+    fn rounds(&self) -> u32
+        ensures { result ≡ rounds self.now };
 
     /// How many variables there are.
     fn vars(&self) -> u32
@@ -54,10 +58,9 @@ pub trait Posed {
     fn slots(&self) -> u32
         ensures { result ≡ (mode self.now).slots };
 
-    /// The round, from 1, that this choice for the decision at the place `at` names. None exactly where it names none of
-    /// the rounds, as that of a pair of tasks.
+    /// The round, from 1, that this choice for the decision at the place `at` names; none for a pair of tasks.
     fn round_of(&self, at: usize, value: i64) -> Option<u64>
         requires { at < length (decisions (mode self.now)) }
-        ensures none { IfNone result (NamesNone (rounds self.now) (slice_index_or (decisions (mode self.now)) at (order 0 0)) value) }
-        ensures some { IfSome result (NamesRound (rounds self.now) (slice_index_or (decisions (mode self.now)) at (order 0 0)) value) };
+        ensures round { result ≡ round_of (rounds self.now) (slice_index_or (decisions (mode self.now)) at (order 0 0)) value }
+        ensures within { Within (rounds self.now) result };
 }

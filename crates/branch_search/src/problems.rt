@@ -9,6 +9,10 @@ impl Posed for Problem {
 
     ghost rounds = { λ p. p.rounds };
 
+    fn rounds(&self) -> u32 {
+        self.rounds()
+    }
+
     fn vars(&self) -> u32 {
         self.vars()
     }

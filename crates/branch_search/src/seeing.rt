@@ -5,11 +5,11 @@ ghost use Rattle.sched_model.specs.ConstraintProblem.{vars, base, decisions, in_
 ghost use Rattle.sched_model.specs.OpenPrefix.{Chosen};
 ghost use Rattle.sched_model.specs.PlainMode.{instances};
 ghost use Rattle.sched_model.specs.RefutationTree.{Roomy};
-ghost use Rattle.branch_search.specs.Loads.{Counted};
-ghost use Rattle.branch_search.specs.Walking.{Fits, Fronts, Sees};
+ghost use Rattle.constraint_set.specs.Loads.{first, tally_of};
+ghost use Rattle.branch_search.specs.Walking.{Fits, Fronts, FrontTally, Sees};
 
-use crate::loads::Loads;
 use crate::posed::Posed;
+use constraint_set::Loads;
 use diff_solver::{Solved, Work, solve};
 use proof_tree::TreeNode;
 use std::alloc::AllocError;
@@ -46,28 +46,25 @@ fn put_in_force<P: Posed>(
 }
 
 /// Counts the round that the last choice names with those of the choices before it.
-fn put_in_loads<P: Posed>(problem: &P, prefix: &[i64], loads: &mut Loads) -> Result<(), AllocError>
+fn put_in_loads<P: Posed>(problem: &P, prefix: &[i64], loads: &mut Loads)
     requires few { length prefix.now ≤ length (decisions (P.mode problem.now)) }
-    requires counted { Counted (P.mode problem.now) (P.rounds problem.now) (length prefix.now - 1) prefix.now loads.old.counts.items loads.old.named.items }
-    ensures counted { IfOk result (λ _. Counted (P.mode problem.now) (P.rounds problem.now) (length prefix.now) prefix.now loads.new.counts.items loads.new.named.items) }
-    ensures same { IfOk result (λ _. length loads.new.named.items ≡ length prefix.now) }
+    requires tally { FrontTally (P.mode problem.now) (P.rounds problem.now) prefix.now loads.old }
+    ensures { loads.new ≡ tally_of (P.mode problem.now) (P.rounds problem.now) prefix.now }
 {
     if prefix.len() == 0 {
-        loads.fall_back(0);
-        return Ok(());
+        loads.keep_first(0);
+        return;
     }
     let last = prefix.len() - 1;
-    loads.fall_back(last);
-    loads.push(problem.round_of(last, prefix[last]))?;
-    Ok(())
+    loads.keep_first(last);
+    loads.count(problem.round_of(last, prefix[last]));
 }
 
 /// The first round, from 1, that the choices name more often than it has slots. The choices before the last one leave
 /// room in each round, so it can only be the one that the last one names.
 fn overfull<P: Posed>(problem: &P, prefix: &[i64], loads: &Loads) -> Option<u64>
     requires few { length prefix.now ≤ length (decisions (P.mode problem.now)) }
-    requires counted { Counted (P.mode problem.now) (P.rounds problem.now) (length prefix.now) prefix.now loads.now.counts.items loads.now.named.items }
-    requires same { length loads.now.named.items ≡ length prefix.now }
+    requires tally { loads.now ≡ tally_of (P.mode problem.now) (P.rounds problem.now) prefix.now }
     requires roomy { Roomy (P.mode problem.now) (P.rounds problem.now) (P.rounds problem.now) (take (length prefix.now - 1) prefix.now) }
     ensures { MatchOption result (Roomy (P.mode problem.now) (P.rounds problem.now) (P.rounds problem.now) prefix.now)
         (λ j. (1 ≤ j) × (j ≤ P.rounds problem.now) × Roomy (P.mode problem.now) (P.rounds problem.now) (j - 1) prefix.now × ((P.mode problem.now).slots < load (P.mode problem.now) (P.rounds problem.now) (j - 1) prefix.now)) }
@@ -75,7 +72,7 @@ fn overfull<P: Posed>(problem: &P, prefix: &[i64], loads: &Loads) -> Option<u64>
     let Some(round) = loads.last() else {
         return None;
     };
-    if loads.count_of(round) > problem.slots() as u64 {
+    if loads.load(round) > problem.slots() as u64 {
         return Some(round);
     }
     None
@@ -131,7 +128,7 @@ pub(crate) fn look<P: Posed>(
     requires few { length prefix.now ≤ length (decisions (P.mode problem.now)) }
     requires chosen { Chosen (P.mode problem.now) (P.rounds problem.now) prefix.now }
     requires fronts { Fronts (P.mode problem.now) (P.rounds problem.now) prefix.now bench.old.constraints.items }
-    requires counted { Counted (P.mode problem.now) (P.rounds problem.now) (length prefix.now - 1) prefix.now bench.old.loads.counts.items bench.old.loads.named.items }
+    requires tally { FrontTally (P.mode problem.now) (P.rounds problem.now) prefix.now bench.old.loads }
     requires roomy { Roomy (P.mode problem.now) (P.rounds problem.now) (P.rounds problem.now) (take (length prefix.now - 1) prefix.now) }
     requires variables { bench.old.work.variables ≡ vars (P.mode problem.now) (P.rounds problem.now) }
     requires room { bench.old.work.constraints ≡ length (base (P.mode problem.now) (P.rounds problem.now)) + 2 * length (decisions (P.mode problem.now)) }
@@ -139,12 +136,12 @@ pub(crate) fn look<P: Posed>(
     ensures seen { IfOk result (λ seen. Sees (P.mode problem.now) (P.rounds problem.now) prefix.now bench.new.work.values refs.old.items refs.new.items seen) }
     ensures list { IfOk result (λ _. bench.new.constraints.items ≡ in_force (P.mode problem.now) (P.rounds problem.now) prefix.now) }
     ensures fits { IfOk result (λ _. All (Fits (vars (P.mode problem.now) (P.rounds problem.now))) bench.new.constraints.items) }
-    ensures counted { IfOk result (λ _. Counted (P.mode problem.now) (P.rounds problem.now) (length prefix.now) prefix.now bench.new.loads.counts.items bench.new.loads.named.items) }
+    ensures tally { IfOk result (λ _. bench.new.loads ≡ tally_of (P.mode problem.now) (P.rounds problem.now) prefix.now) }
     ensures variables { bench.new.work.variables ≡ bench.old.work.variables }
     ensures room { bench.new.work.constraints ≡ bench.old.work.constraints }
 {
     put_in_force(problem, prefix, &mut bench.constraints)?;
-    put_in_loads(problem, prefix, &mut bench.loads)?;
+    put_in_loads(problem, prefix, &mut bench.loads);
     if problem.short_of_slots() {
         return Ok(Some(TreeNode::Short));
     }

@@ -4,9 +4,8 @@ ghost use Rattle.std.specs.Prelude.{◌≡◌, ◌+◌, ◌-◌, ◌*◌, ◌≤
 ghost use Rattle.sched_model.specs.ConstraintProblem.{vars, base, decisions, in_force};
 ghost use Rattle.sched_model.specs.OpenPrefix.{Open};
 ghost use Rattle.branch_search.specs.Stacks.{next_due};
-ghost use Rattle.branch_search.specs.Walking.{Fronts, Standing};
-ghost use Rattle.branch_search.specs.Loads.{Counted};
-ghost use Rattle.branch_search.specs.Coming.{Benched, CountedFor, IsStep, Comes};
+ghost use Rattle.branch_search.specs.Walking.{Fronts, FrontTally, Standing};
+ghost use Rattle.branch_search.specs.Coming.{Benched, TallyFor, IsStep, Comes};
 
 use crate::posed::Posed;
 use crate::seeing::{Bench, look};
@@ -76,13 +75,13 @@ pub(crate) fn visit<P: Posed>(
 ) -> Result<Next, AllocError>
     requires standing { Standing (P.mode problem.now) (P.rounds problem.now) walk.old.prefix.items walk.old.highs.items walk.old.nodes.items walk.old.refs.items }
     requires fronts { Fronts (P.mode problem.now) (P.rounds problem.now) walk.old.prefix.items bench.old.constraints.items }
-    requires counted { Counted (P.mode problem.now) (P.rounds problem.now) (length walk.old.prefix.items - 1) walk.old.prefix.items bench.old.loads.counts.items bench.old.loads.named.items }
+    requires tally { FrontTally (P.mode problem.now) (P.rounds problem.now) walk.old.prefix.items bench.old.loads }
     requires variables { bench.old.work.variables ≡ vars (P.mode problem.now) (P.rounds problem.now) }
     requires room { bench.old.work.constraints ≡ length (base (P.mode problem.now) (P.rounds problem.now)) + 2 * length (decisions (P.mode problem.now)) }
     requires limit { bench.old.work.constraints ≤ 131_072 }
     ensures comes { IfOk result (λ next. Comes (P.mode problem.now) (P.rounds problem.now) walk.old.prefix.items (length walk.old.nodes.items) walk.new.prefix.items walk.new.highs.items walk.new.nodes.items walk.new.refs.items next) }
     ensures benched { IfOk result (λ next. Benched (P.mode problem.now) (P.rounds problem.now) walk.new.prefix.items bench.new.constraints.items bench.new.work.values next) }
-    ensures counted { IfOk result (λ next. CountedFor (P.mode problem.now) (P.rounds problem.now) walk.new.prefix.items bench.new.loads.counts.items bench.new.loads.named.items next) }
+    ensures tally { IfOk result (λ next. TallyFor (P.mode problem.now) (P.rounds problem.now) walk.new.prefix.items bench.new.loads next) }
     ensures variables { bench.new.work.variables ≡ bench.old.work.variables }
     ensures room { bench.new.work.constraints ≡ bench.old.work.constraints }
 {

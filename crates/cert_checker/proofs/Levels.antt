@@ -1,15 +1,16 @@
 -- What the checker keeps of a prefix, as choices come and go
-use Rattle.std.proofs.Common.{◌≡◌, ℕ, suc, ◌+◌, ◌-◌, ◌*◌, ◌%◌, ◌<◌, ◌≤◌, ◌^◌, Bool, true, false, cond, List, [], ◌∷◌, ◌++◌, length, get_or, take, Contains, Option, Some, None, refl, sym, ◌∙◌, ap, subst, arith, ℤ, pos, ◌≤ℤ◌, length-append, ⊎_elim}
-use Rattle.std.specs.Prelude.{nat_eq, IfNone, IfSome}
-use Rattle.std.proofs.lemmas.Bool.{cases_lt, eq-eqb}
-use Rattle.std.proofs.lemmas.List.{take_at, take_all, take_more, take-take, take-append-le, get_or-take, get_or_at, get_or_append_left, length-take-le}
+use Rattle.std.proofs.Common.{◌≡◌, ℕ, suc, ◌+◌, ◌-◌, ◌*◌, ◌<◌, ◌≤◌, true, List, [], ◌∷◌, ◌++◌, length, get_or, take, Contains, refl, sym, ◌∙◌, ap, subst, arith, ℤ, pos, ◌≤ℤ◌, length-append, ⊎_elim}
+use Rattle.std.specs.Prelude.{nat_le, nat_lt, ◌&&◌}
+use Rattle.std.proofs.lemmas.Bool.{cases_lt, le-leb}
+use Rattle.std.proofs.lemmas.List.{take_at, take-take, take-append-le, get_or-take, get_or_at, get_or_append_left, length-take-le}
 use Rattle.tick_num.specs.declared.differences.Diff.{Diff}
-use Rattle.sched_model.specs.Numbers.{span, natural}
+use Rattle.sched_model.specs.Numbers.{span}
 use Rattle.sched_model.specs.PlainMode.{PlainMode}
-use Rattle.sched_model.specs.ConstraintProblem.{Decision, serve, order, base, alternatives, decisions, chosen, in_force, load, load_of}
+use Rattle.sched_model.specs.ConstraintProblem.{order, base, alternatives, decisions, chosen, in_force, load}
 use Rattle.sched_model.specs.OpenPrefix.{Chosen}
 use Rattle.sched_model.proofs.Spans.{in_span}
-use Rattle.constraint_set.specs.Decided.{NamesRound, NamesNone, names_round, LoadsGrow}
+use Rattle.constraint_set.specs.Loads.{Tally, first, round_of, tally_of, times, with_one}
+use Rattle.constraint_set.proofs.Tallies.{loads_are, tally_front, tally_length, tally_push}
 use Rattle.cert_checker.specs.TreeStack.{at_, IsLevel, Stands}
 use Rattle.cert_checker.proofs.Forces.{force_front, force_push, force_none}
 
@@ -55,97 +56,56 @@ levels_front m r p g n le levels k l =
     let lt : k < n = omega (arith, l, length-take-le n p le) in
     level_same m r p (take n p) g (take n g) k (sym (take-take k n p (omega arith))) (sym (get_or-take n p k (pos 0) lt)) (sym (get_or-take n g k (pos 0) lt)) (levels k (omega arith))
 
--- ---- loads
-
--- what the round that a choice names adds to the loads
-pub counted : (r : ℕ) (d : Decision) (v : ℤ) (round : Option ℕ) (old new : List ℕ) → length old ≡ r → IfNone round (NamesNone r d v) → IfSome round (NamesRound r d v) → IfNone round (new ≡ old)
-    → IfSome round (λ j. (q : ℕ) → q < length old → get_or new q 0 ≡ get_or old q 0 + cond (nat_eq q (j - 1)) 1 0)
-    → (q : ℕ) → q < r → get_or new q 0 ≡ get_or old q 0 + cond (names_round r q d v) 1 0
-counted r d v None old new len none some same more q l =
-    let e = ap (λ (xs : List ℕ). get_or xs q 0) same in
-    let f : ◌≡◌ {A = ℕ} (cond (names_round r q d v) 1 0) 0 = ap (λ b. cond b 1 0) (none q l) in
-    omega (arith, e, f)
-counted r d v (Some j) old new len none some same more q l = more q (omega arith) ∙ ap (λ b. get_or old q 0 + cond b 1 0) (sym (some.2 q l))
-
-pub uncounted : (r : ℕ) (d : Decision) (v : ℤ) (round : Option ℕ) (old new : List ℕ) → length old ≡ r → IfNone round (NamesNone r d v) → IfSome round (NamesRound r d v) → IfNone round (new ≡ old)
-    → IfSome round (λ j. (q : ℕ) → q < length old → get_or new q 0 + cond (nat_eq q (j - 1)) 1 0 ≡ get_or old q 0)
-    → (q : ℕ) → q < r → get_or new q 0 + cond (names_round r q d v) 1 0 ≡ get_or old q 0
-uncounted r d v None old new len none some same more q l =
-    let e = ap (λ (xs : List ℕ). get_or xs q 0) same in
-    let f : ◌≡◌ {A = ℕ} (cond (names_round r q d v) 1 0) 0 = ap (λ b. cond b 1 0) (none q l) in
-    omega (arith, e, f)
-uncounted r d v (Some j) old new len none some same more q l = ap (λ b. get_or new q 0 + cond b 1 0) (some.2 q l) ∙ more q (omega arith)
-
--- a load is at most the number of choices
-pub load_most : (r q : ℕ) (ds : List Decision) (p : List ℤ) → load_of r q ds p ≤ length p
-load_most r q [] p = omega arith
-load_most r q (d ∷ ds) [] = omega arith
-load_most r q (serve i k ∷ ds) (v ∷ p) = let h = load_most r q ds p in let c = one (nat_eq ((natural v - 1) % r) q) in omega (arith, h, c)
-  where
-    one : (b : Bool) → cond b 1 0 ≤ 1
-    one true = omega arith
-    one false = omega arith
-load_most r q (order a b ∷ ds) (v ∷ p) = let h = load_most r q ds p in omega (arith, h)
-
--- what is named is counted
-pub names_true : (r q : ℕ) (d : Decision) (v : ℤ) (j : ℕ) → NamesRound r d v j → q ≡ j - 1 → ◌≡◌ {A = ℕ} (cond (names_round r q d v) 1 0) 1
-names_true r q d v j n e =
-    let l : q < r = omega (arith, n.0, n.1, e) in
-    ap (λ b. cond b 1 0) (n.2 q l ∙ eq-eqb q (j - 1) e)
-
 -- ---- what is kept
 
-pub stands_none : (m : PlainMode) (r : ℕ) (list : List Diff) (loads : List ℕ) → list ≡ base m r → length loads ≡ r → ((q : ℕ) → q < r → get_or loads q 0 ≡ 0) → Stands m r [] [] list loads
-stands_none m r list loads e len zeros = record {
+pub stands_none : (m : PlainMode) (r : ℕ) (list : List Diff) (loads : Tally) → list ≡ base m r → loads ≡ tally_of m r [] → Stands m r [] [] list loads
+stands_none m r list loads e t = record {
   same = refl;
   few = omega arith;
   levels = λ k l. absurd (omega (arith, l));
   list = e ∙ sym (force_none m r);
-  rounds = len;
-  loads = λ q l. zeros q l ∙ sym (no_load r q (decisions m));
+  tally = t;
 }
-  where
-    no_load : (r q : ℕ) (ds : List Decision) → load_of r q ds [] ≡ 0
-    no_load r q [] = refl
-    no_load r q (d ∷ ds) = refl
 
-pub stands_put : LoadsGrow → (m : PlainMode) (r : ℕ) (p g p' g' : List ℤ) (list list' : List Diff) (loads loads' : List ℕ) (v h : ℤ) → Stands m r p g list loads → length p < length (decisions m)
+pub stands_put : (m : PlainMode) (r : ℕ) (p g p' g' : List ℤ) (list list' : List Diff) (loads loads' : Tally) (v h : ℤ) → Stands m r p g list loads → length p < length (decisions m)
     → (low : ℤ) × (alternatives m r p ≡ span low h) × (low ≤ℤ v) × (v ≤ℤ h)
     → p' ≡ p ++ v ∷ [] → g' ≡ g ++ h ∷ [] → list' ≡ list ++ chosen m r (get_or (decisions m) (length p) (order 0 0)) v
-    → length loads' ≡ length loads → ((q : ℕ) → q < r → get_or loads' q 0 ≡ get_or loads q 0 + cond (names_round r q (get_or (decisions m) (length p) (order 0 0)) v) 1 0)
-    → Stands m r p' g' list' loads'
-stands_put grow m r p g p' g' list list' loads loads' v h s more among ep eg el len counts =
+    → loads' ≡ with_one loads (round_of r (get_or (decisions m) (length p) (order 0 0)) v) → Stands m r p' g' list' loads'
+stands_put m r p g p' g' list list' loads loads' v h s more among ep eg el et =
     subst (λ (x : List ℤ). Stands m r x g' list' loads') (sym ep) (subst (λ (y : List ℤ). Stands m r (p ++ v ∷ []) y list' loads') (sym eg) (record {
       same = omega (arith, s.same, length-append p (v ∷ []), length-append g (h ∷ []));
       few = omega (arith, more, length-append p (v ∷ []));
       levels = levels_put m r p g v h s.same s.levels among;
       list = el ∙ ap (λ (l : List Diff). l ++ chosen m r (get_or (decisions m) (length p) (order 0 0)) v) s.list ∙ sym (force_push m r p v more);
-      rounds = len ∙ s.rounds;
-      loads = λ q l. counts q l ∙ ap (λ n. n + cond (names_round r q (get_or (decisions m) (length p) (order 0 0)) v) 1 0) (s.loads q l) ∙ sym (grow r q (decisions m) p v more);
+      tally = et ∙ ap (λ (t : Tally). with_one t (round_of r (get_or (decisions m) (length p) (order 0 0)) v)) s.tally ∙ tally_push m r p v more;
     }))
 
-pub stands_pop : LoadsGrow → (m : PlainMode) (r : ℕ) (p g p' g' : List ℤ) (list list' : List Diff) (loads loads' : List ℕ) (k n : ℕ) → Stands m r p g list loads → length p ≡ suc k
-    → p' ≡ take k p → g' ≡ take k g → n ≡ length (base m r) + 2 * k → list' ≡ take n list
-    → length loads' ≡ length loads → ((q : ℕ) → q < r → get_or loads' q 0 + cond (names_round r q (get_or (decisions m) k (order 0 0)) (at_ p k)) 1 0 ≡ get_or loads q 0)
-    → Stands m r p' g' list' loads'
-stands_pop grow m r p g p' g' list list' loads loads' k n s top ep eg en el len counts =
+-- one choice is counted for each of the prefix
+pub named_length : (m : PlainMode) (r : ℕ) (p g : List ℤ) (held : List Diff) (loads : Tally) → Stands m r p g held loads → length loads.named ≡ length p
+named_length m r p g held loads s = ap (λ (t : Tally). length t.named) s.tally ∙ tally_length m r p s.few
+
+pub stands_pop : (m : PlainMode) (r : ℕ) (p g p' g' : List ℤ) (list list' : List Diff) (loads loads' : Tally) (k n : ℕ) → Stands m r p g list loads → length p ≡ suc k
+    → p' ≡ take k p → g' ≡ take k g → n ≡ length (base m r) + 2 * k → list' ≡ take n list → loads' ≡ first (length loads.named - 1) loads → Stands m r p' g' list' loads'
+stands_pop m r p g p' g' list list' loads loads' k n s top ep eg en el et =
     let le : k ≤ length p = omega (arith, top) in
     let flen = length-take-le k p le in
     let glen = length-take-le k g (omega (arith, s.same, top)) in
-    let more : length (take k p) < length (decisions m) = omega (arith, flen, s.few, top) in
-    let split : p ≡ take k p ++ at_ p k ∷ [] = sym (take_all (k + 1) p (omega (arith, top))) ∙ take_more p k (pos 0) (omega (arith, top)) in
+    let named = named_length m r p g list loads s in
     subst (λ (x : List ℤ). Stands m r x g' list' loads') (sym ep) (subst (λ (y : List ℤ). Stands m r (take k p) y list' loads') (sym eg) (record {
       same = glen ∙ sym flen;
-      few = omega (arith, more);
+      few = omega (arith, flen, s.few, top);
       levels = levels_front m r p g k le s.levels;
       list = el ∙ ap (λ (l : List Diff). take n l) s.list ∙ ap (λ i. take i (in_force m r p)) en ∙ force_front m r p k le s.few;
-      rounds = len ∙ s.rounds;
-      loads = λ q l.
-          let e = counts q l ∙ s.loads q l ∙ ap (load m r q) split ∙ grow r q (decisions m) (take k p) (at_ p k) more in
-          let f : ◌≡◌ {A = ℕ} (cond (names_round r q (get_or (decisions m) (length (take k p)) (order 0 0)) (at_ p k)) 1 0) (cond (names_round r q (get_or (decisions m) k (order 0 0)) (at_ p k)) 1 0) =
-          ap (λ i. cond (names_round r q (get_or (decisions m) i (order 0 0)) (at_ p k)) 1 0) flen in
-          omega (arith, e, f);
+      tally = et ∙ ap (λ i. first i loads) (let i : length loads.named - 1 ≡ k = omega (arith, named, top) in i) ∙ ap (first k) s.tally ∙ tally_front m r p k;
     }))
+
+-- whether a round is chosen more often than it has slots
+pub full_is : (m : PlainMode) (r : ℕ) (p g : List ℤ) (held : List Diff) (loads : Tally) (j : ℕ) → Stands m r p g held loads → 1 ≤ j → j ≤ r → nat_lt m.slots (times j loads.named) ≡ (nat_le 1 j && nat_le j r && nat_lt m.slots (load m r (j - 1) p))
+full_is m r p g held loads j s some most =
+    let load-is : times j loads.named ≡ load m r (j - 1) p =
+    ap (λ (t : Tally). times j t.named) s.tally ∙ ap (λ i. times i (tally_of m r p).named) (let i : j ≡ j - 1 + 1 = omega (arith, some) in i) ∙ sym (loads_are m r (j - 1) p) in
+    let over = nat_lt m.slots (load m r (j - 1) p) in
+    ap (nat_lt m.slots) load-is ∙ ap (λ b. b && true && over) (sym (le-leb 1 j some)) ∙ ap (λ b. nat_le 1 j && b && over) (sym (le-leb j r most))
 
 -- the constraints of the last choice
 pub last_diffs : (m : PlainMode) (r : ℕ) (p q : List ℤ) (v : ℤ) → q ≡ p ++ v ∷ [] →
@@ -155,29 +115,6 @@ last_diffs m r p q v e =
     let top : get_or q (length q - 1) (pos 0) ≡ v = ap (λ i. get_or q i (pos 0)) n ∙ ap (λ (x : List ℤ). get_or x (length p) (pos 0)) e ∙ get_or_at p v [] (pos 0) (length p) refl in
     ap (λ (z : ℤ). chosen m r (get_or (decisions m) (length q - 1) (order 0 0)) z) top ∙ ap (λ i. chosen m r (get_or (decisions m) i (order 0 0)) v) n
 
-pub put_chosen : (m : PlainMode) (r : ℕ) (p g q : List ℤ) (held : List Diff) (counts : List ℕ) (v h : ℤ) → Stands m r p g held counts
+pub put_chosen : (m : PlainMode) (r : ℕ) (p g q : List ℤ) (held : List Diff) (loads : Tally) (v h : ℤ) → Stands m r p g held loads
     → (low : ℤ) × (alternatives m r p ≡ span low h) × (low ≤ℤ v) × (v ≤ℤ h) → q ≡ p ++ v ∷ [] → Chosen m r q
-put_chosen m r p g q held counts v h s among e = subst (Chosen m r) (sym e) (is_chosen m r (p ++ v ∷ []) (g ++ h ∷ []) (levels_put m r p g v h s.same s.levels among))
-
-pub put_room : (m : PlainMode) (r : ℕ) (p g : List ℤ) (held : List Diff) (counts : List ℕ) (d : Decision) (v : ℤ) (round : Option ℕ) → Stands m r p g held counts → length p + 1 < 2 ^ 64 → IfSome round (NamesRound r d v)
-    → IfSome round (λ j. get_or counts (j - 1) 0 + 1 < 2 ^ 64)
-put_room m r p g held counts d v None s few some = tt
-put_room m r p g held counts d v (Some j) s few some =
-    let l : j - 1 < r = omega (arith, some.0, some.1) in
-    omega (arith, s.loads (j - 1) l, load_most r (j - 1) (decisions m) p, few)
-
-pub pop_some : LoadsGrow → (m : PlainMode) (r : ℕ) (p g : List ℤ) (held : List Diff) (counts : List ℕ) (k : ℕ) (round : Option ℕ) → Stands m r p g held counts → length p ≡ suc k
-    → IfSome round (NamesRound r (get_or (decisions m) k (order 0 0)) (at_ p k)) → IfSome round (λ j. 1 ≤ get_or counts (j - 1) 0)
-pop_some grow m r p g held counts k None s top some = tt
-pop_some grow m r p g held counts k (Some j) s top some =
-    let d = get_or (decisions m) k (order 0 0) in
-    let l : j - 1 < r = omega (arith, some.0, some.1) in
-    let le : k ≤ length p = omega (arith, top) in
-    let flen = length-take-le k p le in
-    let more : length (take k p) < length (decisions m) = omega (arith, flen, s.few, top) in
-    let split : p ≡ take k p ++ at_ p k ∷ [] = sym (take_all (k + 1) p (omega (arith, top))) ∙ take_more p k (pos 0) (omega (arith, top)) in
-    let named_at : ℕ → ℕ = λ i. cond (names_round r (j - 1) (get_or (decisions m) i (order 0 0)) (at_ p k)) 1 0 in
-    let e = s.loads (j - 1) l ∙ ap (load m r (j - 1)) split ∙ grow r (j - 1) (decisions m) (take k p) (at_ p k) more in
-    let f : ◌≡◌ {A = ℕ} (cond (names_round r (j - 1) (get_or (decisions m) (length (take k p)) (order 0 0)) (at_ p k)) 1 0) 1 =
-    ap (λ i. named_at i) flen ∙ names_true r (j - 1) d (at_ p k) j some refl in
-    omega (arith, e, f)
+put_chosen m r p g q held loads v h s among e = subst (Chosen m r) (sym e) (is_chosen m r (p ++ v ∷ []) (g ++ h ∷ []) (levels_put m r p g v h s.same s.levels among))

@@ -3,10 +3,11 @@ use Rattle.std.specs.Prelude.{◌≡◌, ℕ, zero, suc, ◌+◌, ◌-◌, ◌<�
 use Rattle.tick_num.specs.declared.differences.Diff.{Diff}
 use Rattle.sched_model.specs.Numbers.{span}
 use Rattle.sched_model.specs.PlainMode.{PlainMode}
-use Rattle.sched_model.specs.ConstraintProblem.{alternatives, decisions, in_force, load}
+use Rattle.sched_model.specs.ConstraintProblem.{alternatives, decisions, in_force}
 use Rattle.proof_tree.specs.Items.{Item}
 use Rattle.proof_tree.specs.TreeLines.{Items}
 use Rattle.proof_tree.specs.Reading.{Place, Read, ◌>>=◌, next_item, each, tree_at, leaf_end, BadLeaf}
+use Rattle.constraint_set.specs.Loads.{Tally, tally_of}
 use Rattle.cert_checker.specs.declared.walk.Walk.{Walk}
 
 -- the choice at this place
@@ -43,18 +44,17 @@ due_or_done false o m r p g at = Ok (tt, at)
 abbrev pub IsLevel : PlainMode → ℕ → List ℤ → List ℤ → ℕ → Type 0
 IsLevel m r p g k = (low : ℤ) × (alternatives m r (take k p) ≡ span low (at_ g k)) × (low ≤ℤ at_ p k) × (at_ p k ≤ℤ at_ g k)
 
--- what is kept of the prefix p with the greatest alternatives g: the constraints in force, and how often each round is chosen
-pub record Stands (m : PlainMode) (r : ℕ) (p g : List ℤ) (held : List Diff) (counts : List ℕ) : Type 0 where
+-- what is kept of the prefix p with the greatest alternatives g: the constraints in force, and the loads of the rounds
+pub record Stands (m : PlainMode) (r : ℕ) (p g : List ℤ) (held : List Diff) (loads : Tally) : Type 0 where
   pub same : length g ≡ length p
   pub few : length p ≤ length (decisions m)
   pub levels : (k : ℕ) → k < length p → IsLevel m r p g k
   pub list : held ≡ in_force m r p
-  pub rounds : length counts ≡ r
-  pub loads : (q : ℕ) → q < r → slice_index_or counts q 0 ≡ load m r q p
+  pub tally : loads ≡ tally_of m r p
 
 -- the same of a walk
 abbrev pub IsWalk : Walk → Type 0
-IsWalk w = Stands w.problem.mode w.problem.rounds w.prefix.items w.highs.items w.constraints.items w.loads.items
+IsWalk w = Stands w.problem.mode w.problem.rounds w.prefix.items w.highs.items w.constraints.items w.loads
 
 -- the tree that is due for a walk in mode o, with those beside it
 abbrev pub walk_due : ℕ → Walk → Place → Read (Unit {0})

@@ -125,7 +125,7 @@ fn begin_tree(alloc: Global, set: &ModeSet, mode: u32, rounds: u64) -> Result<Wa
     ensures err { IfErr result (λ e. e ≡ Refused.Memory) }
 {
     let problem = Problem::make(alloc, set, mode, rounds)?;
-    let walk = Walk::begin(alloc, problem, rounds as usize)?;
+    let walk = Walk::begin(alloc, problem)?;
     Ok(walk)
 }
 

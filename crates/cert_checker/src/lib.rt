@@ -6,7 +6,6 @@ mod counts;
 mod draft;
 mod entries;
 mod leaves;
-mod loads;
 mod names;
 mod reader;
 mod refused;

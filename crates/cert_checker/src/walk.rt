@@ -12,35 +12,32 @@ ghost use Rattle.cert_checker.specs.Refusals.{Fails, FitsLine};
 ghost use Rattle.cert_checker.specs.TreeStack.{IsWalk, at_, behind_line, line_at, walk_beside, walk_branch, walk_children, walk_due, walk_goes, walk_leaf};
 
 use crate::leaves::is_negative;
-use crate::loads::{count_one, is_full, take_back};
 use crate::refused::Refused;
-use constraint_set::Problem;
-use constraint_set::laws::loads_grow;
+use constraint_set::{Loads, Problem};
 use proof_tree::PlanLine;
 use std::alloc::{AllocError, Global};
 use tick_num::Diff;
 use ttw_text::Parts;
 
-/// The prefix whose node is due: its choices with the greatest alternative at each, the constraints in force, and how often each round is chosen.
+/// The prefix whose node is due: its choices with the greatest alternative at each, the constraints in force, and the loads of the rounds.
 #[derive(Drop)]
 pub(crate) struct Walk {
     pub(crate) problem: Problem,
     pub(crate) prefix: Vec<i64>,
     pub(crate) highs: Vec<i64>,
     pub(crate) constraints: Vec<Diff>,
-    pub(crate) loads: Vec<u64>,
+    pub(crate) loads: Loads,
 }
 
 impl Walk {
-    /// The walk with no choice yet, for a problem of so many rounds.
-    pub(crate) fn begin(alloc: Global, problem: Problem, rounds: usize) -> Result<Walk, AllocError>
-        requires { rounds ≡ problem.rounds }
+    /// The walk with no choice yet.
+    pub(crate) fn begin(alloc: Global, problem: Problem) -> Result<Walk, AllocError>
         ensures kept { IfOk result (λ w. IsWalk w) }
         ensures problem { IfOk result (λ w. w.problem ≡ problem) }
         ensures empty { IfOk result (λ w. w.prefix.items ≡ []) }
     {
         let constraints = Vec::from_slice(alloc, problem.base())?;
-        let loads = vec![in alloc; 0; rounds]?;
+        let loads = Loads::reserve(alloc, problem.rounds(), problem.decisions())?;
         Ok(Walk {
             problem,
             prefix: Vec::new(alloc),
@@ -52,10 +49,9 @@ impl Walk {
 
     /// The number of rounds.
     pub(crate) fn rounds(&self) -> u64
-        requires { IsWalk self.now }
         ensures { result ≡ self.now.problem.rounds }
     {
-        self.loads.len() as u64
+        self.problem.rounds() as u64
     }
 
     /// Puts a choice behind the others, which is among the alternatives, of which the greatest is `high`.
@@ -74,8 +70,7 @@ impl Walk {
         let diffs = self.problem.diffs_of_last(self.prefix.as_slice());
         self.constraints.extend_from_slice(&diffs)?;
         let round = self.problem.round_of(at, choice);
-        count_one(&mut self.loads, round);
-        loads_grow();
+        self.loads.count(round);
         Ok(())
     }
 
@@ -93,9 +88,7 @@ impl Walk {
         let top = self.prefix.len() - 1;
         let last = self.prefix[top];
         let most = self.highs[top];
-        let round = self.problem.round_of(top, last);
-        loads_grow();
-        take_back(&mut self.loads, round);
+        self.loads.take_back();
         self.prefix.truncate(top);
         self.highs.truncate(top);
         self.constraints.truncate(self.constraints.len() - 2);
@@ -175,7 +168,13 @@ impl Walk {
         requires { IsWalk self.now }
         ensures { result ≡ leaf_holds self.now.problem.mode self.now.problem.rounds self.now.prefix.items (Full round) }
     {
-        is_full(self.loads.as_slice(), self.problem.slots(), round)
+        if round < 1 {
+            return false;
+        }
+        if round > self.rounds() {
+            return false;
+        }
+        self.loads.load(round) > self.problem.slots() as u64
     }
 
     /// Whether the constraints in force of these numbers go round in a cycle whose bounds sum below 0.

@@ -2,5 +2,7 @@ mod FlatLists
 mod BaseLists
 mod Bounded
 mod Loadings
+pub mod Counts
+pub mod Tallies
 mod TableLemmas
 mod TestSets

@@ -1,5 +1,5 @@
 -- How often choices name a round, choice by choice
-use Rattle.std.proofs.Common.{◌≡◌, ℕ, zero, suc, ◌+◌, ◌<◌, ◌≤◌, true, false, cond, List, [], ◌∷◌, ◌++◌, length, get_or, drop, refl, ◌∙◌, ap, arith, ℤ, pos, negsuc, ◌≤ℤ◌, ◌<ℤ◌, unsigned_abs}
+use Rattle.std.proofs.Common.{◌≡◌, ℕ, zero, suc, ◌+◌, ◌<◌, ◌≤◌, true, false, cond, List, [], ◌∷◌, length, get_or, drop, refl, ◌∙◌, ap, arith, ℤ, pos, negsuc, ◌≤ℤ◌, ◌<ℤ◌, unsigned_abs}
 use Rattle.std.proofs.lemmas.Int.{ints}
 use Rattle.std.proofs.Math.Seq.{drop-cons}
 use Rattle.sched_model.specs.Numbers.{natural}
@@ -52,16 +52,3 @@ pub load_end : (r j : ℕ) (ds : List Decision) (vs : List ℤ) (n total : ℕ) 
 load_end r j ds vs n total l h =
     let e = ap (λ (x : List ℤ). load_of r j (drop n ds) x) (drop_past vs n l) ∙ nothing_left r j (drop n ds) in
     omega (arith, e, h)
-
-pub loads_grow : (r q : ℕ) (ds : List Decision) (p : List ℤ) (v : ℤ) → length p < length ds →
-    load_of r q ds (p ++ v ∷ []) ≡ load_of r q ds p + cond (names_round r q (get_or ds (length p) (order 0 0)) v) 1 0
-loads_grow r q [] p v l = absurd (omega (arith, l))
-loads_grow r q (d ∷ ds) [] v l =
-    let e = one_more r q d v ds [] in
-    let z = nothing_left r q ds in
-    omega (arith, e, z)
-loads_grow r q (d ∷ ds) (w ∷ p) v l =
-    let e = one_more r q d w ds (p ++ v ∷ []) in
-    let f = one_more r q d w ds p in
-    let h = loads_grow r q ds p v (omega (arith, l)) in
-    omega (arith, e, f, h)

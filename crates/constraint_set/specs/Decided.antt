@@ -1,5 +1,5 @@
 -- Decisions in code and in the constraint problem
-use Rattle.std.specs.Prelude.{◌≡◌, ℕ, ◌+◌, ◌-◌, ◌%◌, ◌<◌, ◌≤◌, List, [], ◌∷◌, ◌++◌, length, slice_index_or, Bool, false, cond, nat_eq, Contains, ℤ, pos, ◌≤ℤ◌}
+use Rattle.std.specs.Prelude.{ℕ, ◌-◌, ◌%◌, ◌<◌, ◌≤◌, List, Bool, false, nat_eq, Contains, ℤ, pos, ◌≤ℤ◌}
 use Rattle.round_service.specs.Serving.{most_choice}
 use Rattle.sched_model.specs.PlainMode.{PlainMode, task_at}
 use Rattle.constraint_set.specs.Numbers.{numbers_at}
@@ -25,19 +25,6 @@ AllRoom slots r n ds p = (q : ℕ) → q < n → load_of r q ds p ≤ slots
 -- round j, from 1, is the first that is named more often
 abbrev pub FirstOver : ℕ → ℕ → List Decision → List ℤ → ℕ → Type 0
 FirstOver slots r ds p j = (1 ≤ j) × (j ≤ r) × AllRoom slots r (j - 1) ds p × (slots < load_of r (j - 1) ds p)
-
--- a choice v for the decision names round j, from 1, and no other of the first r
-abbrev pub NamesRound : ℕ → Decision → ℤ → ℕ → Type 0
-NamesRound r d v j = (1 ≤ j) × (j ≤ r) × ((q : ℕ) → q < r → names_round r q d v ≡ nat_eq q (j - 1))
-
--- a choice v for the decision names none of the first r rounds
-abbrev pub NamesNone : ℕ → Decision → ℤ → Type 0
-NamesNone r d v = (q : ℕ) → q < r → names_round r q d v ≡ false
-
--- one choice more adds one to the load of the round that it names, and nothing to that of another
-abbrev pub LoadsGrow : Type 0
-LoadsGrow = (r q : ℕ) (ds : List Decision) (p : List ℤ) (v : ℤ) → length p < length ds →
-    load_of r q ds (p ++ v ∷ []) ≡ load_of r q ds p + cond (names_round r q (slice_index_or ds (length p) (order 0 0)) v) 1 0
 
 -- v may be chosen for the decision: a round instance that an instance of the message can have, or a place of the two tasks
 abbrev pub MayChoose : PlainMode → ℕ → Decision → ℤ → Type 0

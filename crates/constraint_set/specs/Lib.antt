@@ -1,4 +1,5 @@
 pub mod Posed
 pub mod Flat
 pub mod Decided
+pub mod Loads
 pub mod Numbers

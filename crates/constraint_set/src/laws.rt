@@ -1,8 +1,8 @@
 //! Laws of the constraint problem that other crates stand on.
 
-ghost use Rattle.constraint_set.specs.Decided.{LoadsGrow};
+ghost use Rattle.constraint_set.specs.Loads.{LoadsAreTallies};
 
-/// A choice more adds one to the load of the round that it names, and leaves the others.
-pub fn loads_grow()
-    ensures { LoadsGrow }
+/// The load of a round in the constraint problem is how often the choices, one after another, name it.
+pub fn loads_are_tallies()
+    ensures { LoadsAreTallies }
 {}

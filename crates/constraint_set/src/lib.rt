@@ -13,4 +13,5 @@ mod schedule;
 #[cfg(test)]
 mod tests;
 
+pub use loads::Loads;
 pub use problem::Problem;

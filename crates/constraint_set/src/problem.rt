@@ -10,7 +10,8 @@ ghost use Rattle.sched_model.specs.ProblemLimits.{ProblemFits};
 ghost use Rattle.sched_model.specs.ValidMode.{IsValid};
 ghost use Rattle.sched_model.specs.PrintedSchedule.{schedule_of};
 ghost use Rattle.tick_num.specs.Differences.{listed};
-ghost use Rattle.constraint_set.specs.Decided.{AllRoom, FirstOver, MayChoose, NamesNone, NamesRound};
+ghost use Rattle.constraint_set.specs.Decided.{AllRoom, FirstOver, MayChoose};
+ghost use Rattle.constraint_set.specs.Loads.{Within, round_of};
 
 use crate::base::make_base;
 use crate::choices::{alternatives_at, diffs_at, diffs_of};
@@ -88,6 +89,15 @@ impl Problem {
         ensures valid { IsValid self.now.mode }
     {
         self.rounds + self.mode.task_count() + 2 * self.mode.message_count()
+    }
+
+    /// The number of rounds in a hyperperiod.
+    pub fn rounds(&self) -> u32
+        ensures count { result ≡ self.now.rounds }
+        ensures some { 1 ≤ result }
+        ensures most { result ≤ most_rounds self.now.mode }
+    {
+        self.rounds
     }
 
     /// The constraints that hold whatever is chosen, in their order.
@@ -171,12 +181,11 @@ impl Problem {
         make_schedule(alloc, &self.mode, self.rounds, self.ticks, choices, values)
     }
 
-    /// The round, from 1, that this choice for the decision at the place `at` names. None exactly where it names none of
-    /// the rounds, as that of a pair of tasks. What a choice adds to the loads of the rounds is the law `loads_grow`.
+    /// The round, from 1, that this choice for the decision at the place `at` names; none for a pair of tasks.
     pub fn round_of(&self, at: usize, value: i64) -> Option<u64>
         requires { at < length (decisions self.now.mode) }
-        ensures none { IfNone result (NamesNone self.now.rounds (slice_index_or (decisions self.now.mode) at (order 0 0)) value) }
-        ensures some { IfSome result (NamesRound self.now.rounds (slice_index_or (decisions self.now.mode) at (order 0 0)) value) }
+        ensures round { result ≡ round_of self.now.rounds (slice_index_or (decisions self.now.mode) at (order 0 0)) value }
+        ensures within { Within self.now.rounds result }
     {
         round_named(self.decisions.at(at), value, self.rounds)
     }

@@ -4,7 +4,7 @@ use Rattle.branch_search.proofs.canonical.search.Goals as goal
 
 pub loop-visited-init : goal.loop-visited-init
 loop-visited-init g c =
-    ready_first (g.P.Posed.mode c.args.problem.now) (g.P.Posed.rounds c.args.problem.now) _ _ _ _ _ _ _ _ _ c.new.ensures.items c.new-2.ensures.items c.new-3.ensures.items c.new-4.ensures.items c.in_ok-bench.ensures.list c.in_ok-bench.ensures.fits c.in_ok-bench.ensures.counts c.in_ok-bench.ensures.rounds c.in_ok-bench.ensures.variables c.in_ok-bench.ensures.room c.in_ok-bench.ensures.limit
+    ready_first (g.P.Posed.mode c.args.problem.now) (g.P.Posed.rounds c.args.problem.now) _ _ _ _ _ _ _ _ c.new.ensures.items c.new-2.ensures.items c.new-3.ensures.items c.new-4.ensures.items c.in_ok-bench.ensures.list c.in_ok-bench.ensures.fits c.in_ok-bench.ensures.tally c.in_ok-bench.ensures.variables c.in_ok-bench.ensures.room c.in_ok-bench.ensures.limit
 
 pub returns-in-Refuted : goal.returns-in-Refuted
 returns-in-Refuted g c =

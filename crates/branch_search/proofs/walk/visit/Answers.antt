@@ -2,9 +2,9 @@ use Rattle.std.proofs.Common.{◌∙◌, ◌-◌, List, length, take, ap, subst,
 use Rattle.sched_model.specs.ConstraintProblem.{in_force}
 use Rattle.sched_model.specs.OpenPrefix.{Chosen}
 use Rattle.sched_model.specs.RefutationTree.{node_of, Roomy}
-use Rattle.branch_search.specs.Loads.{Counted}
+use Rattle.constraint_set.specs.Loads.{tally_of}
 use Rattle.branch_search.proofs.Walks.{few, is_chosen}
-use Rattle.branch_search.proofs.Comings.{leaf_seen, open_seen, ended_comes, leaf_benched, open_benched, front_roomy, counted_comes}
+use Rattle.branch_search.proofs.Comings.{leaf_seen, open_seen, ended_comes, leaf_benched, open_benched, front_roomy, tally_comes}
 use Rattle.branch_search.proofs.walk.visit.Goals as goal
 
 pub look-requires-clause-chosen : goal.look-requires-clause-chosen
@@ -50,23 +50,21 @@ look-requires-clause-roomy g c =
     let r = g.P.Posed.rounds c.args.problem.now in
     subst (λ (p : List ℤ). Roomy m r r (take (length p - 1) p)) (sym c.as_slice.ensures.value) (front_roomy m r w.prefix.items w.highs.items (map (node_of w.refs.items) w.nodes.items) c.requires.standing.reached)
 
-pub returns-in-Some-clause-counted : goal.returns-in-Some-clause-counted
-returns-in-Some-clause-counted g c =
+pub returns-in-Some-clause-tally : goal.returns-in-Some-clause-tally
+returns-in-Some-clause-tally g c =
     let w = c.args.walk.now in
     let m = g.P.Posed.mode c.args.problem.now in
     let r = g.P.Posed.rounds c.args.problem.now in
     let refs = c.look.new.refs.items in
-    let loads = c.look.new.bench.loads in
     let seen = leaf_seen m r w.prefix.items w.highs.items _ _ w.nodes.items w.refs.items refs c.in_ok-leaf.field-0 c.in-Some.leaf c.in_ok-leaf.ensures.seen c.as_slice.ensures.value c.in-Some.is c.requires.standing in
     let comes = ended_comes m r w.prefix.items w.highs.items c.end_tree.new.walk.prefix.items c.end_tree.new.walk.highs.items w.nodes.items c.end_tree.new.walk.nodes.items refs c.end_tree.new.walk.refs.items c.in-Some.leaf c.end_tree.result c.end_tree.ensures.nodes c.end_tree.ensures.next c.end_tree.ensures.refs seen.0 seen.1 seen.2 in
-    counted_comes m r w.prefix.items c.end_tree.new.walk.prefix.items c.end_tree.new.walk.highs.items loads.counts.items loads.named.items (length w.nodes.items) c.end_tree.new.walk.nodes.items c.end_tree.new.walk.refs.items c.end_tree.result comes
-    (subst (λ (p : List ℤ). Counted m r (length p) p loads.counts.items loads.named.items) c.as_slice.ensures.value c.in_ok-leaf.ensures.counted)
+    tally_comes m r w.prefix.items c.end_tree.new.walk.prefix.items c.end_tree.new.walk.highs.items c.look.new.bench.loads (length w.nodes.items) c.end_tree.new.walk.nodes.items c.end_tree.new.walk.refs.items c.end_tree.result comes
+    (c.in_ok-leaf.ensures.tally ∙ ap (tally_of m r) c.as_slice.ensures.value)
 
-pub returns-in-None-clause-counted : goal.returns-in-None-clause-counted
-returns-in-None-clause-counted g c =
+pub returns-in-None-clause-tally : goal.returns-in-None-clause-tally
+returns-in-None-clause-tally g c =
     let w = c.args.walk.now in
     let m = g.P.Posed.mode c.args.problem.now in
     let r = g.P.Posed.rounds c.args.problem.now in
-    let loads = c.look.new.bench.loads in
-    counted_comes m r w.prefix.items c.open_prefix.new.walk.prefix.items c.open_prefix.new.walk.highs.items loads.counts.items loads.named.items _ c.open_prefix.new.walk.nodes.items c.open_prefix.new.walk.refs.items c.open_prefix.result c.open_prefix.ensures
-    (subst (λ (p : List ℤ). Counted m r (length p) p loads.counts.items loads.named.items) c.as_slice.ensures.value c.in_ok-leaf.ensures.counted)
+    tally_comes m r w.prefix.items c.open_prefix.new.walk.prefix.items c.open_prefix.new.walk.highs.items c.look.new.bench.loads _ c.open_prefix.new.walk.nodes.items c.open_prefix.new.walk.refs.items c.open_prefix.result c.open_prefix.ensures
+    (c.in_ok-leaf.ensures.tally ∙ ap (tally_of m r) c.as_slice.ensures.value)

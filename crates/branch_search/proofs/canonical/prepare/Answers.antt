@@ -1,0 +1,5 @@
+use Rattle.constraint_set.proofs.Tallies.{tally_none}
+use Rattle.branch_search.proofs.canonical.prepare.Goals as goal
+
+pub returns-clause-tally : goal.returns-clause-tally
+returns-clause-tally g c = tally_none (g.P.Posed.mode c.args.problem.now) (g.P.Posed.rounds c.args.problem.now) c.in_ok-loads.loads _ _ c.in_ok-loads.ensures c.rounds.ensures c.decisions-2.ensures.count
