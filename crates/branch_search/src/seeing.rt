@@ -5,7 +5,7 @@ ghost use Rattle.sched_model.specs.ConstraintProblem.{vars, base, decisions, in_
 ghost use Rattle.sched_model.specs.OpenPrefix.{Chosen};
 ghost use Rattle.sched_model.specs.PlainMode.{instances};
 ghost use Rattle.sched_model.specs.RefutationTree.{Roomy};
-ghost use Rattle.constraint_set.specs.Loads.{first, tally_of};
+ghost use Rattle.constraint_set.specs.Loads.{tally_of};
 ghost use Rattle.branch_search.specs.Walking.{Fits, Fronts, FrontTally, Sees};
 
 use crate::posed::Posed;

@@ -118,6 +118,7 @@ fn says(diff: Diff, x: u32, y: u32, c: Time) -> bool {
 fn loop_problem(rt: HostRuntime) -> Result<(), Fail> {
     let set = loop_set(rt.alloc(), 100)?;
     let problem = Problem::make(rt.alloc(), &set, 0, 1)?;
+    assert_eq!(rt; problem.rounds(), 1);
     assert_eq!(rt; problem.vars(), 8);
     assert_eq!(rt; problem.base().len(), 17);
     assert_eq!(rt; problem.decisions(), 2);
@@ -137,5 +138,22 @@ fn loop_problem_of_two_rounds(rt: HostRuntime) -> Result<(), Fail> {
     assert_eq!(rt; problem.base().len(), 19);
     assert_eq!(rt; problem.decisions(), 2);
     assert_eq!(rt; problem.alternatives(&[]), (1, 6));
+    Ok(())
+}
+
+#[test]
+fn loads_come_and_go(rt: HostRuntime) -> Result<(), Fail> {
+    let mut loads = Loads::reserve(rt.alloc(), 2, 3)?;
+    loads.count(Some(2));
+    loads.count(None);
+    loads.count(Some(2));
+    assert_eq!(rt; loads.load(1), 0);
+    assert_eq!(rt; loads.load(2), 2);
+    assert_eq!(rt; loads.last(), Some(2));
+    loads.take_back();
+    assert_eq!(rt; loads.load(2), 1);
+    assert_eq!(rt; loads.last(), None);
+    loads.keep_first(0);
+    assert_eq!(rt; loads.load(2), 0);
     Ok(())
 }
