@@ -1,4 +1,5 @@
 pub mod LineLemmas
 pub mod NumberLemmas
+pub mod PlaceLemmas
 pub mod Spellings
 pub mod WordLemmas

@@ -1,36 +1,38 @@
 -- The first part of a line, by the place of its space.
-use Rattle.std.proofs.Common.{◌≡◌, ◌≢◌, ℕ, zero, suc, ◌+◌, ◌≤◌, Bool, true, false, eqb, ltb, leb, List, [], ◌∷◌, ◌++◌, length, take, drop, Option, Some, None, refl, sym, ap, ◌∙◌, inl, inr, arith}
-use Rattle.std.proofs.lemmas.Bool.{cases_Bool, cond-true, cond-false, ltb-true, ltb-false, leb-true, ne_eqb, and_parts, false≢true}
-use Rattle.std.proofs.lemmas.List.Splits.{slice_split_none, slice_split_first, slice_split_at}
+use Rattle.std.proofs.Common.{◌≡◌, ◌≢◌, ℕ, zero, suc, ◌+◌, ◌<◌, ◌≤◌, Bool, true, false, not, eqb, leb, List, [], ◌∷◌, ◌++◌, length, take, drop, Option, Some, None, Bor, refl, sym, ap, ◌∙◌, arith}
+use Rattle.std.proofs.lemmas.Bool.{leb-true, ne_eqb, and_parts, false≢true}
+use Rattle.std.proofs.lemmas.List.Splits.{slice_split_none, slice_split_first, slice_split_at, length-slice_split}
 use Rattle.std.proofs.lemmas.List.Sums.{fails_before_first, AllPass-from_list_all}
-use Rattle.std.specs.List.{position, position_or_len}
+use Rattle.std.specs.List.{position}
+use Rattle.std.specs.Option.{is_some, option_copied}
 use Rattle.std.specs.Str.{all_ascii_digits}
 use Rattle.ttw_text.specs.Names.{is_name, is_name_byte}
 use Rattle.ttw_text.specs.Numbers.{spelled}
-use Rattle.ttw_text.specs.Words.{parts, IsWord}
+use Rattle.ttw_text.specs.Words.{parts, parts_left, IsWord, is_empty}
+use Rattle.ttw_text.proofs.PlaceLemmas.{place_is, none_passes}
 use Rattle.ttw_text.proofs.Spellings.{spelled_spells}
 
 abbrev pub is_space : ℕ → Bool
 is_space b = eqb b 32
 
 pub parts_at : (line : List ℕ) (at : ℕ) → position is_space line ≡ Some at → parts line ≡ take at line ∷ parts (drop (at + 1) line)
-parts_at line at found =
-    elim (cases_Bool (ltb (position_or_len is_space line) (length line))) [
-      | inl in_line ↦
-          let e : Some (position_or_len is_space line) ≡ Some at = sym (cond-true _ _ _ in_line) ∙ found in
-          let place : position_or_len is_space line ≡ at = cc in
-          rw (← place) (slice_split_first is_space line 0 (ltb-true _ _ in_line))
-      | inr past ↦ let none : Option ℕ = None in let e : none ≡ Some at = sym (cond-false _ _ _ past) ∙ found in absurd cc
-    ]
+parts_at line at found = let place = place_is is_space line at found in rw (← place.1) (slice_split_first is_space line 0 place.0)
 
 pub parts_at_end : (line : List ℕ) → position is_space line ≡ None → parts line ≡ line ∷ []
-parts_at_end line found =
-    elim (cases_Bool (ltb (position_or_len is_space line) (length line))) [
-      | inl in_line ↦ let none : Option ℕ = None in let e : Some (position_or_len is_space line) ≡ none = sym (cond-true _ _ _ in_line) ∙ found in absurd cc
-      | inr past ↦
-          let long : length line ≤ position_or_len is_space line = ltb-false _ _ past in
-          slice_split_none is_space line (λ k d below. fails_before_first is_space line k d (omega arith))
-    ]
+parts_at_end line none =
+    let long = none_passes is_space line none in
+    slice_split_none is_space line (λ k d below. fails_before_first is_space line k d (omega arith))
+
+-- a line has a part, so none is left exactly where no line is
+some_part : (ps : List (List ℕ)) → 0 < length ps → false ≡ is_empty ps
+some_part [] some = absurd (omega arith)
+some_part (p ∷ ps) some = refl
+
+pub none_left : (line : Option (Bor (List ℕ))) (none : Bool) → is_some line ≡ not none → none ≡ is_empty (parts_left (option_copied line))
+none_left None true e = refl
+none_left None false e = absurd cc
+none_left (Some line) true e = absurd cc
+none_left (Some line) false e = some_part (parts line.now) (omega (arith, length-slice_split is_space line.now))
 
 -- ---- the laws of words
 

@@ -1,5 +1,6 @@
 -- The one spelling of a number: its decimal digits without a leading zero.
-use Rattle.std.specs.Prelude.{ℕ, zero, suc, ◌+◌, ◌/◌, ◌%◌, ◌^◌, Bool, true, false, ◌&&◌, ◌||◌, ◌==◌, nat_lt, List, [], ◌∷◌, ◌++◌, length, Option, Some, None, if◌then◌else◌, ℤ, pos, negsuc}
+use Rattle.std.specs.Prelude.{ℕ, zero, suc, ◌+◌, ◌/◌, ◌%◌, ◌^◌, Bool, true, false, ◌&&◌, ◌||◌, ◌==◌, nat_lt, nat_le, List, [], ◌∷◌, ◌++◌, length, Option, Some, None, if◌then◌else◌, ℤ, pos, negsuc}
+use Rattle.std.specs.Option.{option_and_then}
 use Rattle.std.specs.Str.{all_ascii_digits}
 use Rattle.std.specs.Str.Parse.{digits_value}
 
@@ -29,3 +30,7 @@ is_numeral (c ∷ cs) = all_ascii_digits (c ∷ cs) && (nat_lt 48 c || length cs
 -- the number below 2 ^ 64 that a text spells
 abbrev pub number_of : List ℕ → Option ℕ
 number_of text = if is_numeral text && nat_lt (digits_value 10 text) (2 ^ 64) then Some (digits_value 10 text) else None
+
+-- the number up to `most` that a text spells
+abbrev pub number_up_to : ℕ → List ℕ → Option ℕ
+number_up_to most text = option_and_then (λ n. if nat_le n most then Some n else None) (number_of text)

@@ -1,8 +1,8 @@
 //! Laws of spellings, words and lines.
 
-ghost use Rattle.std.specs.Prelude.{◌≡◌, ◌≢◌, ◌^◌, ◌<◌, ℕ, List, [], ◌∷◌, ◌++◌, Some, ℤ, All, IsTrue};
+ghost use Rattle.std.specs.Prelude.{◌≡◌, ◌≢◌, ◌↔◌, ◌^◌, ◌<◌, ℕ, List, [], ◌∷◌, ◌++◌, Some, ℤ, All, IsTrue};
 ghost use Rattle.std.specs.List.{concat, join_with_byte};
-ghost use Rattle.ttw_text.specs.Lines.{lines};
+ghost use Rattle.ttw_text.specs.Lines.{lines, without_feed};
 ghost use Rattle.ttw_text.specs.Names as names;
 ghost use Rattle.ttw_text.specs.Numbers.{number_of, spelled, signed_spelled};
 ghost use Rattle.ttw_text.specs.Words.{parts, IsWord};
@@ -25,9 +25,10 @@ pub fn words_law()
     ensures numbers { (n : ℕ) → IsWord (spelled n) }
 {}
 
-/// The lines of a text, joined, are the text, and a line ends at its first line feed.
+/// The lines of a text, joined, are the text, and a line ends at its first line feed, which `without_feed` takes off.
 pub fn lines_law()
     ensures joined { (text : List ℕ) → concat (lines text) ≡ text }
     ensures first { (line rest : List ℕ) → All (λ b. b ≢ 10) line
         → lines (line ++ 10 ∷ rest) ≡ (line ++ 10 ∷ []) ∷ lines rest }
+    ensures feed { (line text : List ℕ) → (without_feed line ≡ Some text) ↔ (line ≡ text ++ 10 ∷ []) }
 {}

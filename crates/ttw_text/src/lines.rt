@@ -1,7 +1,8 @@
 //! The lines of a text.
 
 ghost use Rattle.std.specs.Prelude.{◌≡◌, ◌+◌, ◌<◌, ◌≤◌, ◌↔◌, ◌∷◌, length, take, drop, IsNone, IfSome};
-ghost use Rattle.ttw_text.specs.Lines.{lines};
+ghost use Rattle.std.specs.Option.{option_copied};
+ghost use Rattle.ttw_text.specs.Lines.{lines, without_feed};
 
 use crate::bytes::place_of;
 
@@ -35,4 +36,14 @@ pub fn cut(text: &[u8], from: usize) -> Option<(&[u8], usize)>
     }
     let len = line_len(rest);
     Some((&rest[..len], from + len))
+}
+
+/// A line without its line feed, or `None` where it does not end with one.
+pub fn without_feed(line: &[u8]) -> Option<&[u8]>
+    ensures { option_copied result ≡ without_feed line.now }
+{
+    match line {
+        [text @ .., b'\n'] => Some(text),
+        _ => None,
+    }
 }

@@ -3,7 +3,7 @@
 ghost use Rattle.std.specs.Prelude.{◌≡◌, ◌^◌, ◌<◌, ◌↔◌, ℕ, Some, None, ◌&&◌, nat_lt, if◌then◌else◌};
 ghost use Rattle.std.specs.Str.{all_ascii_digits};
 ghost use Rattle.std.specs.Str.Parse.{digits_value};
-ghost use Rattle.ttw_text.specs.Numbers.{number_of, spelled};
+ghost use Rattle.ttw_text.specs.Numbers.{number_of, number_up_to, spelled};
 
 /// The number that a text of digits writes, where it is below 2 ^ 64.
 fn value_of(digits: &[u8]) -> Option<u64>
@@ -32,4 +32,11 @@ pub fn read_u64(text: &[u8]) -> Option<u64>
         [] | [b'0', _, ..] => None,
         _ => value_of(text),
     }
+}
+
+/// The number that a text spells, where it is at most `most`.
+pub fn read_up_to(text: &[u8], most: u64) -> Option<u64>
+    ensures { result ≡ number_up_to most text.now }
+{
+    read_u64(text).filter(|n| *n <= most)
 }

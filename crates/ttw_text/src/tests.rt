@@ -1,6 +1,9 @@
 //! Spellings at both sides of each limit, and texts cut by hand.
 
-use crate::{Out, cut, is_name, lines_law, read_u64, spelling_law, words, words_law};
+use crate::{
+    Out, cut, is_name, lines_law, read_u64, read_up_to, spelling_law, without_feed, words,
+    words_law,
+};
 use std::test::Fail;
 
 #[test]
@@ -24,6 +27,13 @@ fn reads_one_spelling(rt: HostRuntime) {
 }
 
 #[test]
+fn reads_up_to_a_limit(rt: HostRuntime) {
+    assert_eq!(rt; read_up_to(b"100", 100), Some(100));
+    assert_eq!(rt; read_up_to(b"101", 100), None);
+    assert_eq!(rt; read_up_to(b"01", 100), None);
+}
+
+#[test]
 fn names_have_one_to_32_bytes(rt: HostRuntime) {
     for text in ["a", "z_09", "abcdefghijklmnopqrstuvwxyz_01234"] {
         assert!(rt; is_name(text.as_bytes()), "{text}");
@@ -43,6 +53,20 @@ fn cuts_lines(rt: HostRuntime) {
 }
 
 #[test]
+fn takes_a_feed_off(rt: HostRuntime) {
+    for (line, text) in [("go\n", "go"), ("\n", ""), ("go\r\n", "go\r")] {
+        assert_eq!(rt;
+            without_feed(line.as_bytes()),
+            Some(text.as_bytes()),
+            "{line:?}"
+        );
+    }
+    for line in ["", "go", "\ngo"] {
+        assert_eq!(rt; without_feed(line.as_bytes()), None, "{line:?}");
+    }
+}
+
+#[test]
 fn splits_words(rt: HostRuntime) {
     let mut parts = words(b"go  5");
     let mut again = parts.again();
@@ -52,6 +76,33 @@ fn splits_words(rt: HostRuntime) {
     assert_eq!(rt; parts.next(), None);
     assert_eq!(rt; again.next(), Some(b"go".as_slice()));
     assert_eq!(rt; words(b"").count(), 1);
+}
+
+#[test]
+fn takes_the_only_word(rt: HostRuntime) {
+    for (line, name) in [("go", true), ("Go", false), ("", false)] {
+        let word = line.as_bytes();
+        assert_eq!(rt; words(word).only(), Some(word), "{line}");
+        assert_eq!(rt; words(word).only_name(), name.then_some(word), "{line}");
+    }
+    for line in ["go 5", "go ", " go"] {
+        assert_eq!(rt; words(line.as_bytes()).only(), None, "{line}");
+        assert_eq!(rt; words(line.as_bytes()).only_name(), None, "{line}");
+    }
+}
+
+#[test]
+fn tests_the_words_left(rt: HostRuntime) {
+    for (line, names) in [("n1 n2", true), ("n1 N2", false), ("n1  n2", false)] {
+        assert_eq!(rt; words(line.as_bytes()).are_names(), names, "{line}");
+    }
+    let mut parts = words(b"Go ");
+    assert!(rt; !parts.is_empty());
+    assert_eq!(rt; parts.next(), Some(b"Go".as_slice()));
+    assert!(rt; !parts.is_empty());
+    assert_eq!(rt; parts.next(), Some(b"".as_slice()));
+    assert!(rt; parts.is_empty());
+    assert!(rt; parts.are_names());
 }
 
 #[test]

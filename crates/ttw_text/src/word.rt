@@ -1,10 +1,13 @@
 //! The words of a line.
 
 ghost use Rattle.std.specs.Prelude.{◌≡◌, ◌∷◌};
+ghost use Rattle.std.specs.List.{list_all};
 ghost use Rattle.std.specs.Option.{option_copied};
-ghost use Rattle.ttw_text.specs.Words.{parts, parts_left};
+ghost use Rattle.ttw_text.specs.Names as names;
+ghost use Rattle.ttw_text.specs.Words.{is_empty, only, only_name, parts, parts_left};
 
 use crate::bytes::place_of;
+use crate::names::is_name;
 use std::marker::Model;
 
 /// The parts of a line that are not taken yet. Contracts see them as a list.
@@ -47,6 +50,35 @@ impl<'a> Parts<'a> {
         ensures { result ≡ self.now }
     {
         Parts { rest: self.rest }
+    }
+
+    /// Whether no part is left.
+    pub fn is_empty(&self) -> bool
+        ensures { result ≡ is_empty self.now }
+    {
+        self.rest.is_none()
+    }
+
+    /// The part that is left, where it is the only one.
+    pub fn only(mut self) -> Option<&'a [u8]>
+        ensures { option_copied result ≡ only self.entry }
+    {
+        let part = self.next()?;
+        self.is_empty().then_some(part)
+    }
+
+    /// The part that is left, where it is the only one and a name.
+    pub fn only_name(self) -> Option<&'a [u8]>
+        ensures { option_copied result ≡ only_name self.entry }
+    {
+        self.only().filter(|part| is_name(part))
+    }
+
+    /// Whether each part that is left is a name.
+    pub fn are_names(&self) -> bool
+        ensures { result ≡ list_all names.is_name self.now }
+    {
+        self.again().all(is_name)
     }
 }
 
