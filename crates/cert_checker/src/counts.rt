@@ -13,13 +13,13 @@ ghost use Rattle.cert_checker.specs.Refusals.{Fails, FitsLine};
 ghost use Rattle.cert_checker.specs.TreeStack.{IsWalk, behind_line, line_at, walk_due};
 
 use crate::draft::Draft;
-use crate::entries::{apps_of, starts_of};
+use crate::entries::starts_of;
 use crate::refused::Refused;
 use crate::walk::Walk;
 use app_graph::ModeSet;
 use constraint_set::Problem;
 use proof_tree::PlanLine;
-use sched_model::{Schedule, most_rounds};
+use sched_model::{Schedule, apps_of, most_rounds};
 use std::alloc::Global;
 
 /// What is due inside a mode.

@@ -4,7 +4,6 @@ ghost use Rattle.std.specs.Prelude.{◌≡◌, ◌<◌, ◌≤◌, pos, All, IfO
 ghost use Rattle.std.specs.List.{list_all};
 ghost use Rattle.std.specs.Option.{option_copied};
 ghost use Rattle.std.specs.Str.{bytes_eq};
-ghost use Rattle.sched_model.specs.PlainMode.{mode_at};
 ghost use Rattle.sched_model.specs.RightSchedule.{IsMessage};
 ghost use Rattle.sched_model.specs.TimeLimits.{IsTime};
 ghost use Rattle.proof_tree.specs.Accepting.{is_message, number_of};
@@ -21,6 +20,7 @@ use crate::leaves::value;
 use crate::refused::Refused;
 use app_graph::{App, Message, ModeSet};
 use proof_tree::PlanLine;
+use sched_model::apps_of;
 use std::alloc::{AllocError, Global};
 use tick_num::Time;
 use ttw_text::Parts;
@@ -139,14 +139,6 @@ pub(crate) fn starts_of(
         | PlanLine::Absent
         | PlanLine::End => Err(Refused::Grammar(line)),
     }
-}
-
-/// The applications of the mode of this number.
-pub(crate) fn apps_of(set: &ModeSet, mode: u32) -> &[App]
-    requires { mode < length set.now.modes }
-    ensures { result.now ≡ (mode_at set.now mode).apps }
-{
-    set.modes.as_slice()[mode as usize].apps.as_slice()
 }
 
 /// The message of this name, where there is one.

@@ -2,7 +2,6 @@
 
 ghost use Rattle.std.specs.Prelude.{◌≡◌, ◌+◌, ◌<◌, ◌≤◌, ◌∷◌, [], ◌++◌, List, Option, Ok, Some, length, IfOk, IfErr, OnOk, IsTrue};
 ghost use Rattle.app_graph.specs.Validation.{KeepsRules};
-ghost use Rattle.sched_model.specs.PlainMode.{mode_at};
 ghost use Rattle.proof_tree.specs.Accepting.{IsRight, doc_modes};
 ghost use Rattle.proof_tree.specs.PlanLines.{meaning};
 ghost use Rattle.proof_tree.specs.Reading.{fixed, is_end, is_head, mode_line};
@@ -18,7 +17,7 @@ use crate::entries::is_same;
 use crate::refused::Refused;
 use app_graph::ModeSet;
 use proof_tree::PlanLine;
-use sched_model::{Schedule, verify};
+use sched_model::{Schedule, mode_name, verify};
 use std::alloc::Global;
 
 /// What is due in a document.
@@ -78,14 +77,6 @@ fn take_end(line: u64, item: &PlanLine<'_>) -> Result<(), Refused>
         | PlanLine::Table(_, _)
         | PlanLine::Absent => Err(Refused::Grammar(line)),
     }
-}
-
-/// The name of the mode of this number.
-fn mode_name(set: &ModeSet, mode: u32) -> &[u8]
-    requires { mode < length set.now.modes }
-    ensures { result.now ≡ (mode_at set.now mode).name }
-{
-    set.modes.as_slice()[mode as usize].name.as_bytes()
 }
 
 /// Takes the line that begins the mode of this number.

@@ -3,7 +3,7 @@
 ghost use Rattle.std.specs.Prelude.{◌≡◌, [], ℕ, ◌+◌, ◌-◌, ◌<◌, ◌≤◌, ◌++◌, All, IfOk, length, map, pos, slice_index_or, ◌≤ℤ◌};
 ghost use Rattle.std.specs.List.{flat_map};
 ghost use Rattle.app_graph.specs.Validation.{KeepsRules};
-ghost use Rattle.sched_model.specs.PlainMode.{hyper, mode_at, plain_at};
+ghost use Rattle.sched_model.specs.PlainMode.{hyper, plain_at};
 ghost use Rattle.sched_model.specs.RightSchedule.{IsSchedule};
 ghost use Rattle.sched_model.specs.TimeLimits.{HasTimes, IsTime};
 ghost use Rattle.runtime_model.specs.NodeTables.{part_of};
@@ -15,8 +15,8 @@ ghost use Rattle.node_tables.specs.Parts.{AreSchedules, part_in, plain_table, ty
 
 use crate::rows::{MessageRow, first_message, make_messages, make_tasks};
 use crate::tables::{ModeTable, NodeTable, OwnRound, OwnSlot, OwnTask};
-use app_graph::{App, ListOf, ModeSet};
-use sched_model::{Schedule, TaskRow, hyper};
+use app_graph::{ListOf, ModeSet};
+use sched_model::{Schedule, TaskRow, apps_of, hyper};
 use std::alloc::{AllocError, Global};
 use tick_num::Time;
 
@@ -173,14 +173,6 @@ fn own_rounds(
         rounds.push(own_round(alloc, messages, schedule, place)?)?;
     }
     Ok(rounds)
-}
-
-/// The applications of a mode.
-fn apps_of(set: &ModeSet, mode: u32) -> &[App]
-    requires { mode < length set.now.modes }
-    ensures { result.now ≡ (mode_at set.now mode).apps }
-{
-    set.modes.as_slice()[mode as usize].apps.as_slice()
 }
 
 /// The node's part of the mode, whose first round has this number over the file.

@@ -6,7 +6,7 @@ ghost use Rattle.node_tables.specs.OwnParts.{first_message, first_task, is_on, m
 
 use crate::tables::OwnMessage;
 use app_graph::{App, ListOf, Message, Task};
-use sched_model::TaskRow;
+use sched_model::{TaskRow, deadline_of, period_of};
 use std::alloc::{AllocError, Global};
 
 /// A message of a mode, and what the node does with it.
@@ -34,8 +34,8 @@ fn task_row(app: &App, task: &Task) -> TaskRow
         number: task.number,
         node: task.node,
         wcet: task.wcet.unsigned_abs(),
-        period: app.period.unsigned_abs(),
-        deadline: app.deadline.unsigned_abs(),
+        period: period_of(app),
+        deadline: deadline_of(app),
     }
 }
 
@@ -200,7 +200,7 @@ fn add_messages(
         messages.rows.push(MessageRow {
             number: message.number,
             role,
-            period: app.period.unsigned_abs(),
+            period: period_of(app),
         })?;
     }
     Ok(())

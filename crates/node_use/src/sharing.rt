@@ -4,10 +4,11 @@ ghost use Rattle.std.specs.Prelude.{◌≡◌, ◌++◌, ◌<◌, IfOk, length, 
 ghost use Rattle.std.specs.List.{flat_map};
 ghost use Rattle.app_graph.specs.declared.mode_set.Task.{Task};
 ghost use Rattle.sched_model.specs.Numbers.{below};
-ghost use Rattle.sched_model.specs.PlainMode.{mode_at, plain_at, tasks_of};
+ghost use Rattle.sched_model.specs.PlainMode.{plain_at, tasks_of};
 ghost use Rattle.node_use.specs.Pairs.{pair_at, pairs_of, pairs_with, row_of};
 
 use app_graph::{App, ModeSet, Task};
+use sched_model::apps_of;
 use std::alloc::{AllocError, Global};
 
 /// A task's number and the number of its node.
@@ -28,14 +29,6 @@ fn push_rows(rows: &mut Vec<TaskRow>, tasks: &[Task]) -> Result<(), AllocError>
         })?;
     }
     Ok(())
-}
-
-/// The applications of a mode.
-fn apps_of(set: &ModeSet, mode: u32) -> &[App]
-    requires { mode < length set.now.modes }
-    ensures { result.now ≡ (mode_at set.now mode).apps }
-{
-    set.modes.as_slice()[mode as usize].apps.as_slice()
 }
 
 /// The rows of the applications' tasks, in file order.

@@ -2,7 +2,6 @@
 
 ghost use Rattle.std.specs.Prelude.{◌≡◌, ◌++◌, IfOk, OnOk};
 ghost use Rattle.ttw_text.specs.Numbers.{spelled};
-ghost use Rattle.sched_model.specs.PlainMode.{mode_at};
 ghost use Rattle.cert_checker.specs.Refusals as refusals;
 ghost use Rattle.mode_file.specs.declared.faults.FileFault.TheVariants.{Unknown};
 ghost use Rattle.ttw_program.specs.PlanFiles as plans;
@@ -13,6 +12,7 @@ ghost use Rattle.ttw_program.specs.FaultLines.{said};
 use app_graph::ModeSet;
 use cert_checker::Refused;
 use mode_file::FileFault;
+use sched_model::mode_name;
 use std::alloc::{AllocError, Global};
 use ttw_text::Out;
 
@@ -72,16 +72,6 @@ pub(crate) fn budget_line(alloc: Global, mode: &[u8], rounds: u64) -> Result<Out
     out.put(b" rounds")?;
     out.line_end()?;
     Ok(out)
-}
-
-/// The name of the mode of this number.
-fn mode_name(set: &ModeSet, mode: u32) -> &[u8]
-    ensures { result.now ≡ (mode_at set.now mode).name }
-{
-    match set.modes.as_slice().get(mode as usize) {
-        Some(mode) => mode.name.as_bytes(),
-        None => &[],
-    }
 }
 
 /// Adds some words and a number.
