@@ -1,11 +1,11 @@
 -- The forms of a script's lines
-use Rattle.std.specs.Prelude.{ℕ, Bool, true, nat_le, nat_eq, codes, List, [], ◌∷◌, length, Option, Some, None, if◌then◌else◌}
+use Rattle.std.specs.Prelude.{ℕ, Bool, true, nat_le, nat_eq, codes, List, [], ◌∷◌, length, Option, Some, None, option_map, if◌then◌else◌}
 use Rattle.std.specs.Option.{option_and_then}
 use Rattle.std.specs.List.{list_all}
 use Rattle.std.specs.Str.{bytes_eq}
 use Rattle.ttw_text.specs.Names.{is_name}
-use Rattle.ttw_text.specs.Numbers.{number_of}
-use Rattle.ttw_text.specs.Words.{parts}
+use Rattle.ttw_text.specs.Numbers.{number_up_to}
+use Rattle.ttw_text.specs.Words.{only, only_name, parts}
 
 -- what a line asks for, with the names as they stand: nothing, where it is passed over; a number of Advances; Advances until a beacon;
 -- an Advance that nodes lose; a mode; the restart of a node
@@ -19,37 +19,25 @@ pub data Form : Type 0 where
 
 -- `go N`: N is from 0 to 1,000,000
 abbrev pub go_form : List (List ℕ) → Option Form
-go_form (word ∷ []) = option_and_then (λ n. if nat_le n 1000000 then Some (Go n) else None) (number_of word)
-go_form words = None
+go_form words = option_map Go (option_and_then (number_up_to 1000000) (only words))
 
 -- `until beacon`
 abbrev pub until_form : List (List ℕ) → Option Form
-until_form (word ∷ []) = if bytes_eq word (codes "beacon") then Some UntilBeacon else None
-until_form words = None
+until_form words = option_and_then (λ word. if bytes_eq word (codes "beacon") then Some UntilBeacon else None) (only words)
 
 -- `lose NODE ..`: one name or more
 abbrev pub lose_form : List (List ℕ) → Option Form
 lose_form [] = None
 lose_form (word ∷ words) = if list_all is_name (word ∷ words) then Some (Lose (word ∷ words)) else None
 
--- `request MODE`: one name
-abbrev pub request_form : List (List ℕ) → Option Form
-request_form (word ∷ []) = if is_name word then Some (Request word) else None
-request_form words = None
-
--- `restart NODE`: one name
-abbrev pub restart_form : List (List ℕ) → Option Form
-restart_form (word ∷ []) = if is_name word then Some (Restart word) else None
-restart_form words = None
-
--- the first word says which form it is, of which the words after it are
+-- the first word says which form it is, of which the words after it are. `request MODE` and `restart NODE` have one name
 abbrev pub words_form : List ℕ → List (List ℕ) → Option Form
 words_form first words =
     if bytes_eq first (codes "go") then go_form words
     else if bytes_eq first (codes "until") then until_form words
     else if bytes_eq first (codes "lose") then lose_form words
-    else if bytes_eq first (codes "request") then request_form words
-    else if bytes_eq first (codes "restart") then restart_form words
+    else if bytes_eq first (codes "request") then option_map Request (only_name words)
+    else if bytes_eq first (codes "restart") then option_map Restart (only_name words)
     else None
 
 -- all words of a line, the first one included

@@ -1,5 +1,4 @@
 -- What a form that was read says
-use Rattle.std.specs.Prelude.{ℕ, Bool, true, false, List, [], ◌∷◌, Option, Some, None}
 use Rattle.replay_script.specs.declared.form.LineForm.{LineForm}
 use Rattle.replay_script.specs.declared.form.LineForm.TheVariants as reads
 use Rattle.replay_script.specs.Form.{Form, Passed, Go, UntilBeacon, Lose, Request, Restart}
@@ -12,13 +11,3 @@ meaning reads.UntilBeacon = UntilBeacon
 meaning (reads.Lose names) = Lose names
 meaning (reads.Request name) = Request name.now
 meaning (reads.Restart name) = Restart name.now
-
--- no word is left
-abbrev pub is_alone : List (List ℕ) → Bool
-is_alone [] = true
-is_alone (word ∷ words) = false
-
--- the one word that is left
-abbrev pub only : List (List ℕ) → Option (List ℕ)
-only (word ∷ []) = Some word
-only words = None

@@ -1,25 +1,21 @@
 -- What a script says: its lines that are not passed over, or the fault of its first faulty line
-use Rattle.std.specs.Prelude.{◌≡◌, ⊤, ℕ, ◌+◌, ◌-◌, ◌<◌, ◌≤◌, Bool, false, not, ◌&&◌, nat_le, nat_eq, List, [], ◌∷◌, ◌++◌, length, take, filter_map, position, sum_by, slice_index_or, true, Option, Some, None, is_some, unwrap_or, Result, Ok, Err, if◌then◌else◌}
+use Rattle.std.specs.Prelude.{◌≡◌, ⊤, ℕ, ◌+◌, ◌<◌, ◌≤◌, Bool, false, not, ◌&&◌, nat_le, nat_eq, List, [], ◌∷◌, ◌++◌, length, take, filter_map, position, sum_by, true, Option, Some, None, is_some, unwrap_or, Result, Ok, Err}
 use Rattle.std.specs.List.{concat, list_all}
 use Rattle.std.specs.Str.{bytes_eq}
 use Rattle.app_graph.specs.declared.mode_set.ModeSet.{ModeSet}
 use Rattle.app_graph.specs.Masks.{mask_of}
 use Rattle.app_graph.specs.Rules.{Rule, unless, first_of, each_after}
 use Rattle.app_graph.specs.ValueRules.{among}
-use Rattle.ttw_text.specs.Lines.{lines}
+use Rattle.ttw_text.specs.Lines.{lines, without_feed}
 use Rattle.replay_script.specs.declared.line.Line.{Line}
 use Rattle.replay_script.specs.declared.line.Line.TheVariants as says
 use Rattle.replay_script.specs.declared.fault.ScriptFault.{ScriptFault}
 use Rattle.replay_script.specs.declared.fault.ScriptFault.TheVariants.{BadLine, Unknown, HostNamed, TooMany, Memory}
 use Rattle.replay_script.specs.Form.{Form, Passed, Go, UntilBeacon, Lose, Request, Restart, line_form}
 
--- the line ends with a line feed
-abbrev pub has_feed : List ℕ → Bool
-has_feed line = if nat_eq (length line) 0 then false else nat_eq (slice_index_or line (length line - 1) 0) 10
-
--- the line without it
+-- the line without its line feed, where it ends with one
 abbrev pub content : List ℕ → List ℕ
-content line = if has_feed line then take (length line - 1) line else line
+content line = unwrap_or (without_feed line) line
 
 -- the form of a line of a text
 abbrev pub form : List ℕ → Option Form

@@ -9,25 +9,18 @@ ghost use Rattle.replay_script.specs.Script.{lost, mode_of, node_of};
 use app_graph::{Mode, ModeSet, Name};
 use ttw_text::Parts;
 
-/// Whether a name is this one.
-fn is_same(name: &[u8], other: &Name) -> bool
-    ensures { result ≡ bytes_eq name.now other.now }
-{
-    name == other.as_bytes()
-}
-
 /// The place of the first node with a name.
 fn node_place(nodes: &[Name], name: &[u8]) -> Option<usize>
     ensures { result ≡ position (bytes_eq name.now) nodes.now }
 {
-    nodes.iter().position(|node| is_same(name, node))
+    nodes.iter().position(|node| name == node.as_bytes())
 }
 
 /// The place of the first mode with a name.
 fn mode_place(modes: &[Mode], name: &[u8]) -> Option<usize>
     ensures { result ≡ position (λ mode. bytes_eq name.now mode.name) modes.now }
 {
-    modes.iter().position(|mode| is_same(name, &mode.name))
+    modes.iter().position(|mode| name == mode.name.as_bytes())
 }
 
 /// The number of the node with a name.
@@ -57,26 +50,14 @@ pub(crate) fn are_nodes(set: &ModeSet, names: &Parts<'_>) -> bool
     requires { length set.now.nodes ≤ 64 }
     ensures { result ≡ list_all (λ name. is_some (node_of set.now name)) names.now }
 {
-    let mut left = names.again();
-    while let Some(name) = left.next() {
-        if node_of(set, name).is_none() {
-            return false;
-        }
-    }
-    true
+    names.again().all(|name| node_of(set, name).is_some())
 }
 
 /// Whether a node is among the named ones.
 fn is_named(node: &Name, names: &Parts<'_>) -> bool
     ensures { result ≡ among node.now names.now }
 {
-    let mut left = names.again();
-    while let Some(name) = left.next() {
-        if node.as_bytes() == name {
-            return true;
-        }
-    }
-    false
+    names.again().any(|name| node.as_bytes() == name)
 }
 
 /// The named nodes as a set: the bit of a node is 1 where its name is among them.

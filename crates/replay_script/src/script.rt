@@ -6,7 +6,7 @@ ghost use Rattle.replay_script.specs.declared.fault.ScriptFault.TheVariants.{Mem
 ghost use Rattle.replay_script.specs.Fitting.{FitsScript};
 ghost use Rattle.replay_script.specs.Form.{Restart};
 ghost use Rattle.replay_script.specs.Meaning.{meaning};
-ghost use Rattle.replay_script.specs.Script.{Fits, Gives, Reads, asked, content, fault_at, given, has_feed, name_fault, steps, steps_of};
+ghost use Rattle.replay_script.specs.Script.{Fits, Gives, Reads, asked, content, fault_at, given, name_fault, steps, steps_of};
 
 use crate::fault::ScriptFault;
 use crate::form::{LineForm, line_form};
@@ -14,7 +14,7 @@ use crate::line::Line;
 use crate::naming::{are_nodes, lost_nodes, mode_of, node_of};
 use app_graph::{ListOf, ModeSet};
 use std::alloc::Global;
-use ttw_text::cut;
+use ttw_text::{cut, without_feed};
 
 /// The most lines of a script.
 const MOST_LINES: u64 = 10_000;
@@ -25,25 +25,11 @@ const MOST_BYTES: usize = 1_048_576;
 /// The most Advances of the `go` lines of a script.
 const MOST_STEPS: u64 = 1_000_000;
 
-/// Whether a line ends with a line feed.
-fn has_feed(line: &[u8]) -> bool
-    ensures { result ≡ has_feed line.now }
-{
-    if line.is_empty() {
-        return false;
-    }
-    line[line.len() - 1] == b'\n'
-}
-
-/// A line without its line feed.
+/// A line without its line feed, where it ends with one.
 fn content(line: &[u8]) -> &[u8]
     ensures { result.now ≡ content line.now }
 {
-    if has_feed(line) {
-        &line[..line.len() - 1]
-    } else {
-        line
-    }
+    without_feed(line).unwrap_or(line)
 }
 
 /// The Advances that a form counts for.

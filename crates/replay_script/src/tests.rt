@@ -9,56 +9,45 @@ use std::alloc::{AllocError, Global};
 use std::test::Fail;
 use ttw_text::Out;
 
-fn name(alloc: Global, text: &str) -> Result<Name, AllocError> {
-    Name::copied(alloc, text.as_bytes())
-}
-
 fn names(alloc: Global, texts: &[&str]) -> Result<ListOf<Name>, AllocError> {
     let mut list = Vec::new(alloc);
     for text in texts {
-        list.push(name(alloc, text)?)?;
+        list.push(Name::copied(alloc, text.as_bytes())?)?;
     }
     Ok(ListOf::from_vec(list))
 }
 
-fn one<T: Drop>(alloc: Global, item: T) -> Result<ListOf<T>, AllocError> {
-    let mut list = Vec::new(alloc);
-    list.push(item)?;
-    Ok(ListOf::from_vec(list))
-}
-
 /// A mode with one task on the node `n1`.
-fn mode(alloc: Global, text: &str) -> Result<RawMode, AllocError> {
+fn mode(alloc: Global, name: &[u8]) -> Result<RawMode, AllocError> {
     let task = RawTask {
-        name: name(alloc, "blink")?,
-        node: name(alloc, "n1")?,
+        name: Name::copied(alloc, b"blink")?,
+        node: Name::copied(alloc, b"n1")?,
         wcet: 1,
-        body: name(alloc, "tally")?,
+        body: Name::copied(alloc, b"tally")?,
     };
     let app = RawApp {
-        name: name(alloc, "lamp")?,
+        name: Name::copied(alloc, b"lamp")?,
         period: 100,
         deadline: 100,
-        tasks: one(alloc, task)?,
+        tasks: ListOf::from_vec(vec![in alloc; task]?),
         messages: ListOf::from_vec(Vec::new(alloc)),
     };
     Ok(RawMode {
-        name: name(alloc, text)?,
-        apps: one(alloc, app)?,
+        name: Name::copied(alloc, name)?,
+        apps: ListOf::from_vec(vec![in alloc; app]?),
     })
 }
 
 fn raw_with(alloc: Global, nodes: &[&str]) -> Result<RawSet, AllocError> {
-    let mut modes = Vec::new(alloc);
-    modes.push(mode(alloc, "run")?)?;
-    modes.push(mode(alloc, "idle")?)?;
+    let run = mode(alloc, b"run")?;
+    let idle = mode(alloc, b"idle")?;
     Ok(RawSet {
         slots: 2,
         round: 20,
         gap: 100,
-        host: name(alloc, "n0")?,
+        host: Name::copied(alloc, b"n0")?,
         nodes: names(alloc, nodes)?,
-        modes: ListOf::from_vec(modes),
+        modes: ListOf::from_vec(vec![in alloc; run, idle]?),
     })
 }
 
@@ -382,8 +371,7 @@ fn sixty_four_nodes(rt: HostRuntime) -> Result<(), Fail> {
     for (text, wanted) in &FULL_SCRIPTS {
         assert!(rt; gives(rt.alloc(), &set, text.as_bytes(), wanted), "{text}");
     }
-    let text = repeated(rt.alloc(), b"lose", 1, b"")?;
-    let mut whole = text;
+    let mut whole = Vec::from_slice(rt.alloc(), b"lose")?;
     for node in &ALL_NODES {
         whole.extend_from_slice(b" ")?;
         whole.extend_from_slice(node.as_bytes())?;
