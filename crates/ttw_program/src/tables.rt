@@ -16,7 +16,7 @@ use crate::fault_lines::{none_line, unknown_node_line};
 use crate::mode_files::{ModeFile, read_mode_file};
 use crate::plan_files::{PlanFile, Schedules, read_plan_file, schedules_of};
 use crate::status::Status;
-use app_graph::{ListOf, ModeSet, Name};
+use app_graph::{ListOf, ModeSet};
 use node_tables::{tables_of, write_image};
 use sched_model::Schedule;
 use std::alloc::{AllocError, Global};
@@ -109,13 +109,6 @@ fn tables_plan<F: Files>(
     }
 }
 
-/// Whether this is the name.
-fn is_named(name: &Name, text: &[u8]) -> bool
-    ensures { result ≡ bytes_eq text.now name.now }
-{
-    text == name.as_bytes()
-}
-
 /// The number of the node of this name.
 fn node_named(set: &ModeSet, name: &[u8]) -> Option<usize>
     ensures { result ≡ position (bytes_eq name.now) set.now.nodes }
@@ -123,7 +116,7 @@ fn node_named(set: &ModeSet, name: &[u8]) -> Option<usize>
     set.nodes
         .as_slice()
         .iter()
-        .position(|node| is_named(node, name))
+        .position(|node| name == node.as_bytes())
 }
 
 /// The answer for the node of this name.
