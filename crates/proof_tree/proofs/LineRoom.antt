@@ -1,8 +1,8 @@
 -- The lines of own trees are within the limits.
-use Rattle.std.proofs.Common.{◌≡◌, ℕ, zero, suc, ◌+◌, ◌*◌, ◌<◌, ◌≤◌, Bool, true, ◌&&◌, ltb, ℤ, List, [], ◌∷◌, ◌++◌, length, map, refl, sym, subst, arith, length-append}
+use Rattle.std.proofs.Common.{◌≡◌, ℕ, zero, suc, ◌+◌, ◌*◌, ◌<◌, ◌≤◌, true, ltb, ℤ, List, [], ◌∷◌, ◌++◌, length, map, refl, sym, subst, arith, length-append}
 use Rattle.std.specs.Prelude.{codes}
 use Rattle.std.specs.List.{AllByRecursion, list_all, join_with_byte}
-use Rattle.std.proofs.lemmas.Bool.{lt-ltb, le-leb}
+use Rattle.std.proofs.lemmas.Bool.{and_from, lt-ltb, le-leb}
 use Rattle.std.proofs.lemmas.List.{length-map}
 use Rattle.std.proofs.lemmas.List.Elements.{recursion_from_All}
 use Rattle.tick_num.specs.declared.differences.Diff.{Diff}
@@ -33,15 +33,12 @@ numbers_short : (ns : List ℕ) → AllByRecursion (λ n. n < 65536) ns → AllB
 numbers_short [] h = tt
 numbers_short (n ∷ ns) h = (spelled_short n (omega (arith, h.0)), numbers_short ns h.1)
 
-pub both_true : (a b : Bool) → a ≡ true → b ≡ true → (a && b) ≡ true
-both_true a b e f = rw (e, f) refl
-
 pub number_fits : (n : ℕ) → n ≤ 65536 → fits n ≡ true
 number_fits n h = le-leb n greatest (omega (arith, h))
 
 numbers_fit : (ns : List ℕ) → AllByRecursion (λ n. n < 65536) ns → list_all fits ns ≡ true
 numbers_fit [] h = refl
-numbers_fit (n ∷ ns) h = both_true (fits n) (list_all fits ns) (number_fits n (omega (arith, h.0))) (numbers_fit ns h.1)
+numbers_fit (n ∷ ns) h = and_from (fits n) (list_all fits ns) (number_fits n (omega (arith, h.0))) (numbers_fit ns h.1)
 
 pub refute_room : (r : ℕ) → r ≤ 256 → HasRoom (Refute r)
 refute_room r le = record {
@@ -63,7 +60,7 @@ short_room = record { writable = refl; short = let l : length (join_with_byte 32
 
 cycle_room : (refs : List ℕ) → 0 < length refs → length refs ≤ 512 → AllByRecursion (λ n. n < 65536) refs → HasRoom (Cycle refs)
 cycle_room refs some few small = record {
-  writable = both_true (ltb 0 (length refs)) (list_all fits refs) (lt-ltb 0 (length refs) some) (numbers_fit refs small);
+  writable = and_from (ltb 0 (length refs)) (list_all fits refs) (lt-ltb 0 (length refs) some) (numbers_fit refs small);
   short = let l = joined_length 6 (codes "cycle") (map spelled refs) (numbers_short refs small) in let five : length (codes "cycle") ≡ 5 = refl in omega (arith, l, five, length-map refs spelled, few);
 }
 

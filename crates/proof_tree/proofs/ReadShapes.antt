@@ -1,8 +1,9 @@
 -- A schedule that was read has the shape of its mode, also where a later line is refused.
-use Rattle.std.proofs.Common.{◌≡◌, length-append, ℕ, suc, ◌+◌, ◌<◌, ◌≤◌, Bool, true, false, ◌&&◌, List, [], ◌∷◌, length, get_or, map, All, pos, Option, Some, None, Ok, Err, refl, sym, ap, subst, ◌∙◌, arith}
+use Rattle.std.proofs.Common.{◌≡◌, length-append, ℕ, suc, ◌+◌, ◌<◌, ◌≤◌, true, List, [], ◌∷◌, length, get_or, map, All, pos, Option, Some, None, Ok, Err, refl, sym, ap, subst, ◌∙◌, arith}
 use Rattle.std.specs.Prelude.{⊤, unwrap_or, position, unsigned_abs}
 use Rattle.std.specs.List.{AllByRecursion, list_all, list_any, enumerate_from}
 use Rattle.std.specs.Str.{bytes_eq}
+use Rattle.std.proofs.lemmas.Bool.{and_parts}
 use Rattle.std.proofs.lemmas.List.{length-map, get_or-map}
 use Rattle.std.proofs.lemmas.List.Elements.{All-from_recursion, Contains-get_or}
 use Rattle.std.proofs.lemmas.List.Quantifiers.{position-Some}
@@ -68,10 +69,6 @@ as_many V [] (b ∷ bs) ls rest e = absurd e
 as_many V (a ∷ as') [] ls rest e = absurd e
 as_many V (a ∷ as') (b ∷ bs) ls rest e = ap suc (as_many V as' bs e.0 rest e.2)
 
-and_true : (a b : Bool) → (a && b) ≡ true → (a ≡ true) × (b ≡ true)
-and_true true b e = (refl, e)
-and_true false b e = absurd cc
-
 known_place : (name : List ℕ) (names : List (List ℕ)) → list_any (bytes_eq name) names ≡ true → unwrap_or (position (bytes_eq name) names) 0 < length names
 known_place name [] known = absurd cc
 known_place name (n ∷ names) known = within (position (bytes_eq name) (n ∷ names)) refl
@@ -88,7 +85,7 @@ number_stands m i l =
 names_known : (d : DocMode) → IsNamed d → (names : List (List ℕ)) → list_all (is_message d) names ≡ true → AllByRecursion (IsMessage d.mode) (map (number_of d) names)
 names_known d is [] known = tt
 names_known d is (n ∷ names) known =
-    let both = and_true (is_message d n) (list_all (is_message d) names) known in
+    let both = and_parts (is_message d n) (list_all (is_message d) names) known in
     (number_stands d.mode (unwrap_or (position (bytes_eq n) d.messages) 0) (omega (arith, known_place n d.messages both.0, is.messages)), names_known d is names both.1)
 
 tables_known : (d : DocMode) → IsNamed d → (js : List ℕ) (tables : List (List ℕ)) (ls rest : Items) → EachIs (OneTable d) js tables ls rest → AllByRecursion (λ table. All (IsMessage d.mode) table) tables

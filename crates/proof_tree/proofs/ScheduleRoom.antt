@@ -3,7 +3,7 @@ use Rattle.std.proofs.Common.{◌≡◌, ℕ, ◌+◌, ◌<◌, ◌≤◌, true,
 use Rattle.std.specs.Prelude.{codes, unsigned_abs}
 use Rattle.std.specs.List.{AllByRecursion, list_all, zip, enumerate_from}
 use Rattle.std.proofs.lemmas.Int.{ints}
-use Rattle.std.proofs.lemmas.Bool.{lt-ltb, le-leb, leb-true, and_parts}
+use Rattle.std.proofs.lemmas.Bool.{and_from, and_parts, lt-ltb, le-leb, leb-true}
 use Rattle.std.proofs.lemmas.List.{length-map}
 use Rattle.std.proofs.lemmas.List.Elements.{recursion_from_All, All-from_recursion}
 use Rattle.app_graph.specs.declared.mode_set.ModeSet.{ModeSet}
@@ -26,7 +26,7 @@ use Rattle.proof_tree.specs.Spelled.{fits}
 use Rattle.proof_tree.specs.Names.{tasks_in, messages_in, name_of}
 use Rattle.proof_tree.specs.PlanText.{task_item, message_item, table_item, schedule_items}
 use Rattle.proof_tree.specs.DocumentLaws.{HasRoom}
-use Rattle.proof_tree.proofs.LineRoom.{joined_length, both_true}
+use Rattle.proof_tree.proofs.LineRoom.{joined_length}
 use Rattle.proof_tree.proofs.DistinctNames.{name, found, plain_numbers}
 use Rattle.proof_tree.proofs.GoodNames.{IsName, HasNames, all_append}
 
@@ -58,7 +58,7 @@ schedule_room r le = record {
 
 times_fit : (zs : List ℤ) → AllByRecursion IsTime zs → list_all fits (map unsigned_abs zs) ≡ true
 times_fit [] h = refl
-times_fit (z ∷ zs) h = both_true (fits (unsigned_abs z)) (list_all fits (map unsigned_abs zs)) (time_fits (unsigned_abs z) (abs_time z h.0)) (times_fit zs h.1)
+times_fit (z ∷ zs) h = and_from (fits (unsigned_abs z)) (list_all fits (map unsigned_abs zs)) (time_fits (unsigned_abs z) (abs_time z h.0)) (times_fit zs h.1)
 
 times_short : (zs : List ℤ) → AllByRecursion IsTime zs → AllByRecursion (λ v. length v < 14) (map spelled (map unsigned_abs zs))
 times_short [] h = tt
@@ -69,7 +69,7 @@ start_room zs some few h =
     let ns = map unsigned_abs zs in
     let count : length ns ≡ length zs = length-map zs unsigned_abs in
     record {
-      writable = both_true (ltb 0 (length ns)) (list_all fits ns) (lt-ltb 0 (length ns) (omega (arith, some, count))) (times_fit zs h);
+      writable = and_from (ltb 0 (length ns)) (list_all fits ns) (lt-ltb 0 (length ns) (omega (arith, some, count))) (times_fit zs h);
       short = let l = joined_length 14 (codes "start") (map spelled ns) (times_short zs h) in let w : length (codes "start") ≡ 5 = refl in omega (arith, l, w, count, few, length-map ns spelled);
     }
 
@@ -77,7 +77,7 @@ task_room : (text : List ℕ) (z : ℤ) → IsName text → IsTime z → HasRoom
 task_room text z n h =
     let o = unsigned_abs z in
     record {
-      writable = both_true (is_name text) (fits o) n (time_fits o (abs_time z h));
+      writable = and_from (is_name text) (fits o) n (time_fits o (abs_time z h));
       short =
           let l = joined_length 33 (codes "task") (text ∷ spelled o ∷ []) (name_short text n, (omega (arith, spelled_time o (abs_time z h)), tt)) in
           let w : length (codes "task") ≡ 4 = refl in
@@ -89,7 +89,7 @@ message_room text w n h =
     let o = unsigned_abs w.0 in
     let q = unsigned_abs w.1 in
     record {
-      writable = both_true (is_name text) (fits o && fits q) n (both_true (fits o) (fits q) (time_fits o (abs_time w.0 h.0)) (time_fits q (abs_time w.1 h.1)));
+      writable = and_from (is_name text) (fits o && fits q) n (and_from (fits o) (fits q) (time_fits o (abs_time w.0 h.0)) (time_fits q (abs_time w.1 h.1)));
       short =
           let l = joined_length 33 (codes "message") (text ∷ spelled o ∷ spelled q ∷ []) (name_short text n, (omega (arith, spelled_time o (abs_time w.0 h.0)), (omega (arith, spelled_time q (abs_time w.1 h.1)), tt))) in
           let f : length (codes "message") ≡ 7 = refl in
@@ -98,7 +98,7 @@ message_room text w n h =
 
 names_good : (names : List (List ℕ)) → AllByRecursion IsName names → list_all is_name names ≡ true
 names_good [] h = refl
-names_good (n ∷ ns) h = both_true (is_name n) (list_all is_name ns) h.0 (names_good ns h.1)
+names_good (n ∷ ns) h = and_from (is_name n) (list_all is_name ns) h.0 (names_good ns h.1)
 
 names_short : (names : List (List ℕ)) → AllByRecursion IsName names → AllByRecursion (λ v. length v < 33) names
 names_short [] h = tt
@@ -106,7 +106,7 @@ names_short (n ∷ ns) h = (name_short n h.0, names_short ns h.1)
 
 table_room : (j : ℕ) (names : List (List ℕ)) → j ≤ 256 → length names ≤ 32 → AllByRecursion IsName names → HasRoom (TableOf j names)
 table_room j names le few h = record {
-  writable = both_true (fits j) (list_all is_name names) (time_fits j (omega (arith, le))) (names_good names h);
+  writable = and_from (fits j) (list_all is_name names) (time_fits j (omega (arith, le))) (names_good names h);
   short =
       let l = joined_length 33 (codes "table") (spelled j ∷ names) (omega (arith, spelled_time j (omega (arith, le))), names_short names h) in
       let w : length (codes "table") ≡ 5 = refl in

@@ -1,11 +1,12 @@
 -- The text of lines is read back.
-use Rattle.std.proofs.Common.{◌≡◌, ℕ, ◌+◌, ◌<◌, ◌≤◌, Bool, true, false, cond, eqb, leb, List, [], ◌∷◌, ◌++◌, length, map, Option, Some, None, refl, ap, ◌∙◌, arith, append_assoc, length-append}
+use Rattle.std.proofs.Common.{◌≡◌, ℕ, ◌+◌, ◌<◌, ◌≤◌, false, cond, leb, List, [], ◌∷◌, ◌++◌, length, map, Option, Some, None, refl, ap, ◌∙◌, arith, append_assoc, length-append}
 use Rattle.std.specs.List.{join_with_byte, slice_split, AllByRecursion}
-use Rattle.std.proofs.lemmas.Bool.{ne_eqb, le-leb}
+use Rattle.std.proofs.lemmas.Bool.{cond-true, ne_eqb, le-leb}
 use Rattle.std.proofs.lemmas.List.Elements.{All-append, All-cons}
 use Rattle.std.proofs.lemmas.List.Splits.{slice_split_at, length-slice_split}
 use Rattle.std.specs.Prelude.{All}
 use Rattle.ttw_text.specs.Words.{IsWord}
+use Rattle.ttw_text.proofs.LineLemmas.{is_feed}
 use Rattle.proof_tree.specs.Items.{Item, first_word, other_words, text_of}
 use Rattle.proof_tree.specs.Grammar.{item_of}
 use Rattle.proof_tree.specs.Spelled.{Says}
@@ -13,9 +14,6 @@ use Rattle.proof_tree.specs.TreeLines.{Items}
 use Rattle.proof_tree.specs.Accepting.{limit, longest, line_item, items_from}
 use Rattle.proof_tree.specs.DocumentLaws.{HasRoom, TextsAreRead}
 use Rattle.proof_tree.proofs.LineReading.{said_is_read, first_is_word, others_are_words}
-
-abbrev is_feed : ℕ → Bool
-is_feed b = eqb b 10
 
 -- no line feed is in it
 abbrev Unfed : List ℕ → Type 0
@@ -35,16 +33,12 @@ one_line : (at : ℕ) (l : List ℕ) (ls : List (List ℕ)) → 0 < length ls �
 one_line at l [] some = absurd (omega arith)
 one_line at l (m ∷ ls) some = refl
 
-cond_true : {A : Type 0} (b : Bool) (x y : A) → b ≡ true → cond b x y ≡ x
-cond_true true x y e = refl
-cond_true false x y e = absurd cc
-
 fitting_line : (end : ℕ) (i : Item) → HasRoom i → end ≤ limit → line_item end (join_with_byte 32 (first_word i ∷ other_words i)) ≡ Some i
 fitting_line end i room le =
     let l = join_with_byte 32 (first_word i ∷ other_words i) in
     let says : Says l i = record { words = refl; writable = room.writable } in
-    cond_true (leb (length l) longest) (cond (leb end limit) (item_of l) None) None (le-leb (length l) longest room.short)
-    ∙ cond_true (leb end limit) (item_of l) None (le-leb end limit le)
+    cond-true (leb (length l) longest) (cond (leb end limit) (item_of l) None) None (le-leb (length l) longest room.short)
+    ∙ cond-true (leb end limit) (item_of l) None (le-leb end limit le)
     ∙ said_is_read l i says
 
 text_back : (items : List Item) (at : ℕ) → AllByRecursion HasRoom items → at + length (text_of items) ≤ limit → items_from at (slice_split is_feed (text_of items)) ≡ map Some items

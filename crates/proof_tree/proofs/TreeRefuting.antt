@@ -1,8 +1,8 @@
 -- The lines of a valid tree are the nodes of one, and so show that no schedule of so many rounds is right.
-use Rattle.std.proofs.Common.{◌≡◌, ℕ, zero, suc, ◌-◌, ◌<◌, Bool, true, false, ◌&&◌, eqb, ltb, leb, List, [], ◌∷◌, ◌++◌, length, map, refl, sym, subst, ℤ, pos, append_assoc, Some, None}
+use Rattle.std.proofs.Common.{◌≡◌, ℕ, zero, suc, ◌-◌, ◌<◌, true, ◌&&◌, eqb, ltb, leb, List, [], ◌∷◌, ◌++◌, length, map, refl, sym, subst, ℤ, pos, append_assoc, Some, None}
 use Rattle.std.specs.Prelude.{int_lt}
 use Rattle.std.specs.List.{AllByRecursion, list_all}
-use Rattle.std.proofs.lemmas.Bool.{ltb-true, leb-true, eqb-true}
+use Rattle.std.proofs.lemmas.Bool.{and_parts, ltb-true, leb-true, eqb-true}
 use Rattle.std.proofs.lemmas.List.{append-nil}
 use Rattle.std.proofs.lemmas.List.Elements.{All-from_recursion}
 use borrow.Author.Differences.{below_in, lt-true}
@@ -19,15 +19,10 @@ use Rattle.sched_model.proofs.Refutations.{tree_refutes}
 use Rattle.proof_tree.specs.Items.{Branch, Short, Full, Cycle}
 use Rattle.proof_tree.specs.TreeLines.{Items, closes, is_cycle, is_negative, EachOf, ValidLines, TreeStands}
 
-both : (a b : Bool) → (a && b) ≡ true → (a ≡ true) × (b ≡ true)
-both true true e = (refl, refl)
-both true false e = absurd cc
-both false b e = absurd cc
-
 closes_is : (x : ℕ) (ds : List Diff) → closes x ds ≡ true → Closes x ds
 closes_is x [] e = absurd cc
 closes_is x (d ∷ []) e = eqb-true d.y x e
-closes_is x (d ∷ f ∷ ds) e = let p = both (eqb d.y f.x) (closes x (f ∷ ds)) e in (eqb-true d.y f.x p.0, closes_is x (f ∷ ds) p.1)
+closes_is x (d ∷ f ∷ ds) e = let p = and_parts (eqb d.y f.x) (closes x (f ∷ ds)) e in (eqb-true d.y f.x p.0, closes_is x (f ∷ ds) p.1)
 
 cycle_is : (ds : List Diff) → is_cycle ds ≡ true → IsCycle ds
 cycle_is [] e = absurd cc
@@ -35,12 +30,12 @@ cycle_is (d ∷ ds) e = closes_is d.x (d ∷ ds) e
 
 below_all : (n : ℕ) (refs : List ℕ) → list_all (λ i. ltb i n) refs ≡ true → AllByRecursion (λ i. i < n) refs
 below_all n [] e = tt
-below_all n (i ∷ refs) e = let p = both (ltb i n) (list_all (λ j. ltb j n) refs) e in (ltb-true i n p.0, below_all n refs p.1)
+below_all n (i ∷ refs) e = let p = and_parts (ltb i n) (list_all (λ j. ltb j n) refs) e in (ltb-true i n p.0, below_all n refs p.1)
 
 negative_is : (ds : List Diff) (refs : List ℕ) → is_negative ds refs ≡ true → NegativeCycle ds refs
 negative_is ds refs e =
-    let p = both (list_all (λ i. ltb i (length ds)) refs && is_cycle (named ds refs)) (int_lt (sum_ℤ (map (λ d. d.c) (named ds refs))) (pos 0)) e in
-    let q = both (list_all (λ i. ltb i (length ds)) refs) (is_cycle (named ds refs)) p.0 in
+    let p = and_parts (list_all (λ i. ltb i (length ds)) refs && is_cycle (named ds refs)) (int_lt (sum_ℤ (map (λ d. d.c) (named ds refs))) (pos 0)) e in
+    let q = and_parts (list_all (λ i. ltb i (length ds)) refs) (is_cycle (named ds refs)) p.0 in
     record {
       within = All-from_recursion (λ i. i < length ds) refs (below_all (length ds) refs q.0);
       closed = cycle_is (named ds refs) q.1;
@@ -67,8 +62,8 @@ nodes_of m r (suc n) p (Some Branch ∷ ls) rest t =
     (branch ∷ e.0, λ behind. e.1 behind)
 nodes_of m r n p (Some Short ∷ ls) rest t = (short ∷ [], λ behind. (ltb-true _ _ t.0, refl))
 nodes_of m r n p (Some (Full j) ∷ ls) rest t =
-    let a = both (leb 1 j && leb j r) (ltb m.slots (load m r (j - 1) p)) t.0 in
-    let b = both (leb 1 j) (leb j r) a.0 in
+    let a = and_parts (leb 1 j && leb j r) (ltb m.slots (load m r (j - 1) p)) t.0 in
+    let b = and_parts (leb 1 j) (leb j r) a.0 in
     (full j ∷ [], λ behind. (leb-true _ _ b.0, leb-true _ _ b.1, ltb-true _ _ a.1, refl))
 nodes_of m r n p (Some (Cycle refs) ∷ ls) rest t = (cycle refs ∷ [], λ behind. (negative_is (in_force m r p) refs t.0, refl))
 nodes_of m r n p (None ∷ ls) rest t = absurd t

@@ -4,7 +4,7 @@ use Rattle.std.specs.Prelude.{int_lt, All}
 use Rattle.std.specs.List.{list_all, flat_map, enumerate_from}
 use Rattle.std.specs.Int.Signed.{lt_z_no}
 use Rattle.std.proofs.lemmas.List.{map-append}
-use Rattle.std.proofs.lemmas.Bool.{lt-ltb, le-leb}
+use Rattle.std.proofs.lemmas.Bool.{and_from, lt-ltb, le-leb}
 use Rattle.std.proofs.lemmas.Int.{ints}
 use Rattle.tick_num.specs.declared.differences.Diff.{Diff}
 use Rattle.tick_num.specs.Differences.{named, sum_ℤ, Closes, IsCycle, NegativeCycle}
@@ -17,13 +17,10 @@ use Rattle.proof_tree.specs.PlanText.{node_item, stored_item, tree_items, refute
 use Rattle.proof_tree.specs.TreeLines.{Items, closes, is_cycle, is_negative, EachOf, ValidLines, TreeStands}
 use Rattle.proof_tree.specs.DocumentLaws.{TreesStand, ListsStand}
 
-both_true : (a b : Bool) → a ≡ true → b ≡ true → (a && b) ≡ true
-both_true a b e f = rw (e, f) refl
-
 closes_test : (x : ℕ) (ds : List Diff) → Closes x ds → closes x ds ≡ true
 closes_test x [] c = absurd c
 closes_test x (d ∷ []) c = eq-eqb d.y x c
-closes_test x (d ∷ e ∷ ds) c = both_true (eqb d.y e.x) (closes x (e ∷ ds)) (eq-eqb d.y e.x c.0) (closes_test x (e ∷ ds) c.1)
+closes_test x (d ∷ e ∷ ds) c = and_from (eqb d.y e.x) (closes x (e ∷ ds)) (eq-eqb d.y e.x c.0) (closes_test x (e ∷ ds) c.1)
 
 cycle_test : (ds : List Diff) → IsCycle ds → is_cycle ds ≡ true
 cycle_test [] c = absurd c
@@ -32,7 +29,7 @@ cycle_test (d ∷ ds) c = closes_test d.x (d ∷ ds) c
 below_test : (n : ℕ) (refs : List ℕ) → All (λ i. i < n) refs → list_all (λ i. ltb i n) refs ≡ true
 below_test n [] h = refl
 below_test n (i ∷ refs) h =
-    both_true (ltb i n) (list_all (λ j. ltb j n) refs) (lt-ltb i n (h 0 i (omega arith))) (below_test n refs (λ k d lt. h (suc k) d (omega arith)))
+    and_from (ltb i n) (list_all (λ j. ltb j n) refs) (lt-ltb i n (h 0 i (omega arith))) (below_test n refs (λ k d lt. h (suc k) d (omega arith)))
 
 below_zero : (z : ℤ) → z <ℤ pos 0 → int_lt z (pos 0) ≡ true
 below_zero z h = test (int_lt z (pos 0)) refl
@@ -43,8 +40,8 @@ below_zero z h = test (int_lt z (pos 0)) refl
 
 negative_test : (ds : List Diff) (refs : List ℕ) → NegativeCycle ds refs → is_negative ds refs ≡ true
 negative_test ds refs c =
-    both_true (list_all (λ i. ltb i (length ds)) refs && is_cycle (named ds refs)) (int_lt (sum_ℤ (map (λ d. d.c) (named ds refs))) (pos 0))
-    (both_true (list_all (λ i. ltb i (length ds)) refs) (is_cycle (named ds refs)) (below_test (length ds) refs c.within) (cycle_test (named ds refs) c.closed))
+    and_from (list_all (λ i. ltb i (length ds)) refs && is_cycle (named ds refs)) (int_lt (sum_ℤ (map (λ d. d.c) (named ds refs))) (pos 0))
+    (and_from (list_all (λ i. ltb i (length ds)) refs) (is_cycle (named ds refs)) (below_test (length ds) refs c.within) (cycle_test (named ds refs) c.closed))
     (below_zero (sum_ℤ (map (λ d. d.c) (named ds refs))) c.negative)
 
 -- the lines of nodes
@@ -63,7 +60,7 @@ stands m r (suc n) p (branch ∷ nodes) rest ls t =
     each_stands (λ a. ValidLines m r n (p ++ a ∷ [])) (λ a. ValidFrom m r n (p ++ a ∷ [])) ls (λ a ns mid v. stands m r n (p ++ a ∷ []) ns mid ls v) (alternatives m r p) nodes rest t
 stands m r n p (short ∷ nodes) rest ls t = (lt-ltb _ _ t.0, ap (λ (ns : List Node). lines ns ++ ls) t.1)
 stands m r n p (full j ∷ nodes) rest ls t = (
-  both_true (leb 1 j && leb j r) (ltb m.slots (load m r (j - 1) p)) (both_true (leb 1 j) (leb j r) (le-leb _ _ t.0) (le-leb _ _ t.1)) (lt-ltb _ _ t.2),
+  and_from (leb 1 j && leb j r) (ltb m.slots (load m r (j - 1) p)) (and_from (leb 1 j) (leb j r) (le-leb _ _ t.0) (le-leb _ _ t.1)) (lt-ltb _ _ t.2),
   ap (λ (ns : List Node). lines ns ++ ls) t.3,
 )
 stands m r n p (cycle refs ∷ nodes) rest ls t = (negative_test (in_force m r p) refs t.0, ap (λ (ns : List Node). lines ns ++ ls) t.1)

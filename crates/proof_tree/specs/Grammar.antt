@@ -1,11 +1,11 @@
 -- The grammar of the lines of a plan document.
-use Rattle.std.specs.Prelude.{ℕ, Bool, true, false, nat_le, codes, List, [], ◌∷◌, map, Option, Some, None, if◌then◌else◌, option_map, is_some, unwrap_or}
+use Rattle.std.specs.Prelude.{ℕ, Bool, false, codes, List, [], ◌∷◌, map, Option, Some, None, if◌then◌else◌, option_map, is_some, unwrap_or}
 use Rattle.std.specs.Option.{option_and_then}
 use Rattle.std.specs.List.{list_all}
 use Rattle.std.specs.Str.{bytes_eq}
 use Rattle.ttw_text.specs.Names.{is_name}
-use Rattle.ttw_text.specs.Numbers.{number_of}
-use Rattle.ttw_text.specs.Words.{parts}
+use Rattle.ttw_text.specs.Numbers.{number_up_to}
+use Rattle.ttw_text.specs.Words.{is_empty, only, only_name, parts}
 use Rattle.proof_tree.specs.Items.{Item, Head, ModeNamed, Refute, Branch, Short, Full, Cycle, ScheduleOf, Start, TaskAt, MessageAt, TableOf, Absent, End}
 
 -- the greatest number of a plan document
@@ -14,7 +14,7 @@ greatest = 2000000000000
 
 -- the number that a word spells, where it is within a document's limit
 abbrev pub plan_number : List ℕ → Option ℕ
-plan_number word = option_and_then (λ n. if nat_le n greatest then Some n else None) (number_of word)
+plan_number word = number_up_to greatest word
 
 -- a word is a number
 abbrev pub is_number : List ℕ → Bool
@@ -26,23 +26,9 @@ value word = unwrap_or (plan_number word) 0
 
 -- ---- what may follow the first word
 
--- no word
-abbrev pub alone : List (List ℕ) → Bool
-alone [] = true
-alone (w ∷ ws) = false
-
--- one word
-abbrev pub only : List (List ℕ) → Option (List ℕ)
-only (w ∷ []) = Some w
-only _ = None
-
 -- one number
 abbrev pub one_number : List (List ℕ) → Option ℕ
 one_number ws = option_and_then plan_number (only ws)
-
--- one name
-abbrev pub one_name : List (List ℕ) → Option (List ℕ)
-one_name ws = option_and_then (λ w. if is_name w then Some w else None) (only ws)
 
 -- one or more numbers
 abbrev pub some_numbers : List (List ℕ) → Option (List (List ℕ))
@@ -79,20 +65,20 @@ name_numbers (n ∷ ws) = if is_name n then option_map (λ p. (n, p)) (two_numbe
 -- what a line of these words says, by its first word
 abbrev pub form : List ℕ → List (List ℕ) → Option Item
 form w args =
-    if bytes_eq w (codes "branch") then (if alone args then Some Branch else None)
-    else if bytes_eq w (codes "short") then (if alone args then Some Short else None)
+    if bytes_eq w (codes "branch") then (if is_empty args then Some Branch else None)
+    else if bytes_eq w (codes "short") then (if is_empty args then Some Short else None)
     else if bytes_eq w (codes "full") then option_map Full (one_number args)
     else if bytes_eq w (codes "refute") then option_map Refute (one_number args)
     else if bytes_eq w (codes "cycle") then option_map (λ ws. Cycle (map value ws)) (some_numbers args)
     else if bytes_eq w (codes "start") then option_map (λ ws. Start (map value ws)) (some_numbers args)
     else if bytes_eq w (codes "table") then option_map (λ t. TableOf t.0 t.1) (number_names args)
-    else if bytes_eq w (codes "mode") then option_map ModeNamed (one_name args)
+    else if bytes_eq w (codes "mode") then option_map ModeNamed (only_name args)
     else if bytes_eq w (codes "ttw") then (if is_one args then Some Head else None)
-    else if bytes_eq w (codes "none") then (if alone args then Some Absent else None)
+    else if bytes_eq w (codes "none") then (if is_empty args then Some Absent else None)
     else if bytes_eq w (codes "schedule") then option_map ScheduleOf (one_number args)
     else if bytes_eq w (codes "task") then option_map (λ t. TaskAt t.0 t.1) (name_number args)
     else if bytes_eq w (codes "message") then option_map (λ t. MessageAt t.0 t.1.0 t.1.1) (name_numbers args)
-    else if bytes_eq w (codes "end") then (if alone args then Some End else None)
+    else if bytes_eq w (codes "end") then (if is_empty args then Some End else None)
     else None
 
 -- what a line of these words says

@@ -1,21 +1,19 @@
 //! The lines of a plan document, read back.
 
-ghost use Rattle.std.specs.Prelude.{◌≡◌, option_map, List};
+ghost use Rattle.std.specs.Prelude.{◌≡◌, ◌≤◌, option_map};
 ghost use Rattle.std.specs.List.{list_all};
 ghost use Rattle.std.specs.Result.{result_ok};
-ghost use Rattle.std.specs.Str.{bytes_eq};
-ghost use Rattle.ttw_text.specs.Names as names;
-ghost use Rattle.proof_tree.specs.Grammar.{item_of, form, alone, only, plan_number, is_number, is_one};
+ghost use Rattle.proof_tree.specs.Grammar.{item_of, form, is_number, is_one, plan_number};
 ghost use Rattle.proof_tree.specs.Grammar as grammar;
 ghost use Rattle.proof_tree.specs.PlanLines.{meaning};
 
-use ttw_text::{Parts, is_name, read_u64, words};
+use ttw_text::{Parts, is_name, read_up_to, words};
 
 /// The greatest number of a plan document.
 const GREATEST: u64 = 2_000_000_000_000;
 
-/// What a line says. Parts give the numbers or names of the line, whose spelling was tested; they
-/// borrow the line.
+/// What a line says. Parts give the numbers or names of the line, whose spelling was tested (`value`
+/// is the number of a word); they borrow the line.
 #[derive(Drop)]
 pub enum PlanLine<'a> {
     /// `ttw 1`: the first line.
@@ -52,275 +50,138 @@ pub enum PlanLine<'a> {
 #[derive(Clone, Copy, Debug, PartialEq, Eq)]
 pub struct BadLine;
 
-/// Whether a word is this text.
-fn is(word: &[u8], text: &str) -> bool
-    ensures { result ≡ bytes_eq word.now text.now }
-{
-    word == text.as_bytes()
-}
-
 /// The number that a word spells, where it is within a document's limit.
 fn number(word: &[u8]) -> Option<u64>
     ensures { result ≡ plan_number word.now }
 {
-    match read_u64(word) {
-        None => None,
-        Some(n) => { if n <= GREATEST { Some(n) } else { None } }
-    }
+    read_up_to(word, GREATEST)
 }
 
-/// Whether all words are numbers.
-fn all_numbers(parts: &Parts<'_>) -> bool
-    ensures { result ≡ list_all is_number parts.now }
+/// The number that a word of a line spells, where it is within a document's limit, else 0.
+pub fn value(word: &[u8]) -> u64
+    ensures number { result ≡ grammar.value word.now }
+    ensures few { result ≤ 2000000000000 }
 {
-    let mut left = parts.again();
-    while let Some(word) = left.next() {
-        if number(word).is_none() {
-            return false;
-        }
-    }
-    true
-}
-
-/// Whether all words are names.
-fn all_names(parts: &Parts<'_>) -> bool
-    ensures { result ≡ list_all names.is_name parts.now }
-{
-    let mut left = parts.again();
-    while let Some(word) = left.next() {
-        if !is_name(word) {
-            return false;
-        }
-    }
-    true
-}
-
-/// Whether no word is left.
-fn is_empty(mut parts: Parts<'_>) -> bool
-    ensures { result ≡ alone parts.entry }
-{
-    parts.next().is_none()
-}
-
-/// The word, where one is left.
-fn only_word(mut parts: Parts<'_>) -> Option<&[u8]>
-    ensures { option_map (λ w. w.now) result ≡ only parts.entry }
-{
-    match parts.next() {
-        None => None,
-        Some(word) => { if is_empty(parts) { Some(word) } else { None } }
-    }
+    number(word).unwrap_or(0)
 }
 
 /// The number, where one word is left and is one.
 fn one_number(parts: Parts<'_>) -> Option<u64>
     ensures { result ≡ grammar.one_number parts.entry }
 {
-    match only_word(parts) {
-        None => None,
-        Some(word) => number(word),
-    }
+    number(parts.only()?)
 }
 
-/// The name, where one word is left and is one.
-fn one_name(parts: Parts<'_>) -> Option<&[u8]>
-    ensures { option_map (λ w. w.now) result ≡ grammar.one_name parts.entry }
+/// Whether all words are numbers.
+fn are_numbers(parts: &Parts<'_>) -> bool
+    ensures { result ≡ list_all is_number parts.now }
 {
-    match only_word(parts) {
-        None => None,
-        Some(word) => { if is_name(word) { Some(word) } else { None } }
-    }
+    parts.again().all(|word| number(word).is_some())
 }
 
 /// The words, where they are numbers, and one or more.
 fn some_numbers(parts: Parts<'_>) -> Option<Parts<'_>>
     ensures { result ≡ grammar.some_numbers parts.entry }
 {
-    let mut first = parts.again();
-    if first.next().is_none() {
+    if parts.is_empty() || !are_numbers(&parts) {
         return None;
     }
-    if all_numbers(&parts) {
-        Some(parts)
-    } else {
-        None
-    }
+    Some(parts)
 }
 
 /// A number and names.
 fn number_names(mut parts: Parts<'_>) -> Option<(u64, Parts<'_>)>
     ensures { result ≡ grammar.number_names parts.entry }
 {
-    let word = match parts.next() {
-        None => return None,
-        Some(word) => word,
-    };
-    match number(word) {
-        None => None,
-        Some(round) => {
-            if all_names(&parts) {
-                Some((round, parts))
-            } else {
-                None
-            }
-        }
+    let round = number(parts.next()?)?;
+    if !parts.are_names() {
+        return None;
     }
+    Some((round, parts))
 }
 
 /// Whether the number 1 is left.
 fn is_version(parts: Parts<'_>) -> bool
     ensures { result ≡ is_one parts.entry }
 {
-    match only_word(parts) {
-        None => false,
-        Some(word) => is(word, "1"),
-    }
+    parts.only().is_some_and(|word| word == "1".as_bytes())
 }
 
 /// A name and a number.
 fn name_number(mut parts: Parts<'_>) -> Option<(&[u8], u64)>
     ensures { option_map (λ t. (t.0.now, t.1)) result ≡ grammar.name_number parts.entry }
 {
-    let name = match parts.next() {
-        None => return None,
-        Some(name) => name,
-    };
-    if !is_name(name) {
-        return None;
-    }
-    match one_number(parts) {
-        None => None,
-        Some(offset) => Some((name, offset)),
-    }
+    let name = parts.next().filter(|word| is_name(word))?;
+    let offset = one_number(parts)?;
+    Some((name, offset))
 }
 
 /// Two numbers.
 fn two_numbers(mut parts: Parts<'_>) -> Option<(u64, u64)>
     ensures { result ≡ grammar.two_numbers parts.entry }
 {
-    let word = match parts.next() {
-        None => return None,
-        Some(word) => word,
-    };
-    let opens = match number(word) {
-        None => return None,
-        Some(opens) => opens,
-    };
-    match one_number(parts) {
-        None => None,
-        Some(closes) => Some((opens, closes)),
-    }
+    let opens = number(parts.next()?)?;
+    let closes = one_number(parts)?;
+    Some((opens, closes))
 }
 
 /// A name and two numbers.
 fn name_numbers(mut parts: Parts<'_>) -> Option<(&[u8], u64, u64)>
     ensures { option_map (λ t. (t.0.now, (t.1, t.2))) result ≡ grammar.name_numbers parts.entry }
 {
-    let name = match parts.next() {
-        None => return None,
-        Some(name) => name,
-    };
-    if !is_name(name) {
-        return None;
-    }
-    match two_numbers(parts) {
-        None => None,
-        Some((opens, closes)) => Some((name, opens, closes)),
-    }
+    let name = parts.next().filter(|word| is_name(word))?;
+    let (opens, closes) = two_numbers(parts)?;
+    Some((name, opens, closes))
 }
 
 /// What a line says that begins with this word and goes on with these parts.
 fn form_of<'a>(word: &[u8], parts: Parts<'a>) -> Option<PlanLine<'a>>
     ensures { option_map meaning result ≡ form word.now parts.entry }
 {
-    if is(word, "branch") {
-        return if is_empty(parts) {
-            Some(PlanLine::Branch)
-        } else {
-            None
-        };
+    if word == "branch".as_bytes() {
+        return parts.is_empty().then_some(PlanLine::Branch);
     }
-    if is(word, "short") {
-        return if is_empty(parts) {
-            Some(PlanLine::Short)
-        } else {
-            None
-        };
+    if word == "short".as_bytes() {
+        return parts.is_empty().then_some(PlanLine::Short);
     }
-    if is(word, "full") {
-        return match one_number(parts) {
-            None => None,
-            Some(round) => Some(PlanLine::Full(round)),
-        };
+    if word == "full".as_bytes() {
+        return Some(PlanLine::Full(one_number(parts)?));
     }
-    if is(word, "refute") {
-        return match one_number(parts) {
-            None => None,
-            Some(rounds) => Some(PlanLine::Refute(rounds)),
-        };
+    if word == "refute".as_bytes() {
+        return Some(PlanLine::Refute(one_number(parts)?));
     }
-    if is(word, "cycle") {
-        return match some_numbers(parts) {
-            None => None,
-            Some(refs) => Some(PlanLine::Cycle(refs)),
-        };
+    if word == "cycle".as_bytes() {
+        return Some(PlanLine::Cycle(some_numbers(parts)?));
     }
-    if is(word, "start") {
-        return match some_numbers(parts) {
-            None => None,
-            Some(times) => Some(PlanLine::Start(times)),
-        };
+    if word == "start".as_bytes() {
+        return Some(PlanLine::Start(some_numbers(parts)?));
     }
-    if is(word, "table") {
-        return match number_names(parts) {
-            None => None,
-            Some((round, names)) => Some(PlanLine::Table(round, names)),
-        };
+    if word == "table".as_bytes() {
+        let (round, names) = number_names(parts)?;
+        return Some(PlanLine::Table(round, names));
     }
-    if is(word, "mode") {
-        return match one_name(parts) {
-            None => None,
-            Some(name) => Some(PlanLine::Mode(name)),
-        };
+    if word == "mode".as_bytes() {
+        return Some(PlanLine::Mode(parts.only_name()?));
     }
-    if is(word, "ttw") {
-        return if is_version(parts) {
-            Some(PlanLine::Head)
-        } else {
-            None
-        };
+    if word == "ttw".as_bytes() {
+        return is_version(parts).then_some(PlanLine::Head);
     }
-    if is(word, "none") {
-        return if is_empty(parts) {
-            Some(PlanLine::Absent)
-        } else {
-            None
-        };
+    if word == "none".as_bytes() {
+        return parts.is_empty().then_some(PlanLine::Absent);
     }
-    if is(word, "schedule") {
-        return match one_number(parts) {
-            None => None,
-            Some(rounds) => Some(PlanLine::Schedule(rounds)),
-        };
+    if word == "schedule".as_bytes() {
+        return Some(PlanLine::Schedule(one_number(parts)?));
     }
-    if is(word, "task") {
-        return match name_number(parts) {
-            None => None,
-            Some((name, offset)) => Some(PlanLine::Task(name, offset)),
-        };
+    if word == "task".as_bytes() {
+        let (name, offset) = name_number(parts)?;
+        return Some(PlanLine::Task(name, offset));
     }
-    if is(word, "message") {
-        return match name_numbers(parts) {
-            None => None,
-            Some((name, opens, closes)) => Some(PlanLine::Message(name, opens, closes)),
-        };
+    if word == "message".as_bytes() {
+        let (name, opens, closes) = name_numbers(parts)?;
+        return Some(PlanLine::Message(name, opens, closes));
     }
-    if is(word, "end") {
-        return if is_empty(parts) {
-            Some(PlanLine::End)
-        } else {
-            None
-        };
+    if word == "end".as_bytes() {
+        return parts.is_empty().then_some(PlanLine::End);
     }
     None
 }
@@ -331,11 +192,6 @@ pub fn item(line: &[u8]) -> Result<PlanLine<'_>, BadLine>
     ensures { option_map meaning (result_ok result) ≡ item_of line.now }
 {
     let mut parts = words(line);
-    match parts.next() {
-        None => Err(BadLine),
-        Some(word) => match form_of(word, parts) {
-            None => Err(BadLine),
-            Some(line) => Ok(line),
-        },
-    }
+    let word = parts.next().ok_or(BadLine)?;
+    form_of(word, parts).ok_or(BadLine)
 }

@@ -2,25 +2,14 @@
 
 ghost use Rattle.std.specs.Prelude.{◌≡◌, IfOk, length};
 
-use crate::{ModePart, PlanLine, Tree, TreeNode, item, write_plan, write_schedule, write_tree};
-use app_graph::{App, ListOf, Message, Mode, ModeSet, Name, Task};
+use crate::{
+    ModePart, PlanLine, Tree, TreeNode, item, value, write_plan, write_schedule, write_tree,
+};
+use app_graph::{App, ListOf, Mode, ModeSet, Name, Task};
 use sched_model::Schedule;
 use std::alloc::{AllocError, Global};
 use std::test::Fail;
 use ttw_text::Out;
-
-/// A list of one.
-fn one<T: Drop>(alloc: Global, item: T) -> Result<ListOf<T>, AllocError>
-    ensures { IfOk result (λ list. length list ≡ 1) }
-{
-    let mut items = Vec::new(alloc);
-    items.push(item)?;
-    Ok(ListOf::from_vec(items))
-}
-
-fn none<T>(alloc: Global) -> ListOf<T> {
-    ListOf::from_vec(Vec::new(alloc))
-}
 
 /// A set of one mode `run`, whose task `blink` sends nothing.
 fn blink_set(alloc: Global) -> Result<ModeSet, AllocError>
@@ -37,48 +26,48 @@ fn blink_set(alloc: Global) -> Result<ModeSet, AllocError>
         name: Name::copied(alloc, b"lamp")?,
         period: 100,
         deadline: 100,
-        tasks: one(alloc, task)?,
-        messages: none(alloc),
+        tasks: ListOf::from_vec(vec![in alloc; task]?),
+        messages: ListOf::from_vec(Vec::new(alloc)),
     };
     let mode = Mode {
         name: Name::copied(alloc, b"run")?,
-        apps: one(alloc, app)?,
+        apps: ListOf::from_vec(vec![in alloc; app]?),
     };
     Ok(ModeSet {
         slots: 2,
         round: 10,
         gap: 40,
         host: 0,
-        nodes: none(alloc),
-        modes: one(alloc, mode)?,
+        nodes: ListOf::from_vec(Vec::new(alloc)),
+        modes: ListOf::from_vec(vec![in alloc; mode]?),
     })
 }
 
 /// A schedule of three rounds that carry nothing.
 fn blink_schedule(alloc: Global) -> Result<Schedule, AllocError> {
     let mut tables = Vec::new(alloc);
-    tables.push(none(alloc))?;
-    tables.push(none(alloc))?;
-    tables.push(none(alloc))?;
+    for _ in 0..3 {
+        tables.push(ListOf::from_vec(Vec::new(alloc)))?;
+    }
     Ok(Schedule {
-        starts: ListOf::from_vec(Vec::from_slice(alloc, &[0, 20, 60])?),
-        tasks: one(alloc, 0)?,
-        messages: none(alloc),
+        starts: ListOf::from_vec(vec![in alloc; 0, 20, 60]?),
+        tasks: ListOf::from_vec(vec![in alloc; 0]?),
+        messages: ListOf::from_vec(Vec::new(alloc)),
         tables: ListOf::from_vec(tables),
     })
 }
 
 /// A tree with each kind of node.
 fn small_tree(alloc: Global) -> Result<Tree, AllocError> {
-    let nodes = [
+    let nodes = vec![in alloc;
         TreeNode::Branch,
         TreeNode::Cycle { from: 1, len: 2 },
         TreeNode::Full(3),
         TreeNode::Short,
-    ];
+    ]?;
     Ok(Tree {
-        nodes: ListOf::from_vec(Vec::from_slice(alloc, &nodes)?),
-        refs: ListOf::from_vec(Vec::from_slice(alloc, &[7, 8, 9])?),
+        nodes: ListOf::from_vec(nodes),
+        refs: ListOf::from_vec(vec![in alloc; 7, 8, 9]?),
     })
 }
 
@@ -87,7 +76,7 @@ fn one_task_plan(rt: HostRuntime) -> Result<(), Fail> {
     let alloc = rt.alloc();
     let set = blink_set(alloc)?;
     let parts = [ModePart {
-        refuted: none(alloc),
+        refuted: ListOf::from_vec(Vec::new(alloc)),
         schedule: Some(blink_schedule(alloc)?),
     }];
     let mut out = Out::make(alloc);
@@ -103,7 +92,7 @@ fn no_round_fits(rt: HostRuntime) -> Result<(), Fail> {
     let alloc = rt.alloc();
     let set = blink_set(alloc)?;
     let parts = [ModePart {
-        refuted: none(alloc),
+        refuted: ListOf::from_vec(Vec::new(alloc)),
         schedule: None,
     }];
     let mut out = Out::make(alloc);
@@ -152,6 +141,8 @@ fn lines_have_one_form(rt: HostRuntime) {
     ] {
         assert!(rt; item(text.as_bytes()).is_err(), "{text}");
     }
+    assert_eq!(rt; value(b"2000000000000"), 2_000_000_000_000);
+    assert_eq!(rt; value(b"2000000000001"), 0);
     assert!(rt;
         matches!(
             item(b"message m1 23 43"),
