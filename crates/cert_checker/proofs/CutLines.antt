@@ -1,20 +1,19 @@
 -- The lines that are cut off a document are those of its bytes
-use Rattle.std.proofs.Common.{◌≡◌, ℕ, suc, ◌+◌, ◌-◌, ◌≤◌, Bool, true, false, not, ◌&&◌, cond, leb, List, [], ◌∷◌, ◌++◌, length, get_or, take, refl, sym, ap, subst, ◌∙◌, arith, length-append}
-use Rattle.std.specs.Prelude.{Option, Some, None, ◌==◌}
+use Rattle.std.proofs.Common.{◌≡◌, ℕ, ◌+◌, ◌≤◌, Bool, true, false, not, ◌&&◌, cond, leb, List, [], ◌∷◌, ◌++◌, length, refl, sym, ap, subst, ◌∙◌, arith, length-append}
+use Rattle.std.specs.Prelude.{Option, Some, None}
+use Rattle.std.specs.Option.{option_and_then}
 use Rattle.std.specs.List.{slice_split, onto_first, list_all, join_with_byte, AllByRecursion}
-use Rattle.std.proofs.lemmas.List.{take_at, get_or_at}
-use Rattle.std.proofs.lemmas.Bool.{eqb-true, ne_eqb, le-leb}
+use Rattle.std.proofs.lemmas.Bool.{eqb-true, eq-eqb, le-leb, false≢true}
+use Rattle.std.proofs.lemmas.List.Sums.{AllPass-from_list_all}
 use Rattle.ttw_text.specs.Lines.{lines}
+use Rattle.ttw_text.proofs.LineLemmas.{is_feed, without_feed-append, without_feed-none}
 use Rattle.proof_tree.specs.Items.{Item, first_word, other_words}
 use Rattle.proof_tree.specs.Grammar.{item_of}
 use Rattle.proof_tree.specs.Spelled.{Says}
 use Rattle.cert_checker.specs.Refusals.{FitsLine}
 use Rattle.proof_tree.specs.TreeLines.{Items}
 use Rattle.proof_tree.specs.Accepting.{limit, longest, line_item, items_from, items_of}
-use Rattle.cert_checker.specs.DocumentLines.{has_feed, line_read, items_left}
-
-abbrev is_feed : ℕ → Bool
-is_feed b = b == 10
+use Rattle.cert_checker.specs.DocumentLines.{line_read, items_left}
 
 -- the parts between line feeds, as lines with their line feeds
 joined : List (List ℕ) → List (List ℕ)
@@ -65,46 +64,18 @@ lines_joined (b ∷ bs) = here (is_feed b) refl (parts_of bs) (lines_joined bs)
 -- a line with its line feed
 fed_read : (at : ℕ) (l : List ℕ) → line_read (at + length (l ++ 10 ∷ [])) (l ++ 10 ∷ []) ≡ line_item (at + length l + 1) l
 fed_read at l =
-    let fed = l ++ 10 ∷ [] in
-    let len : length fed ≡ length l + 1 = length-append l (10 ∷ []) in
-    let last : length fed - 1 ≡ length l = omega (arith, len) in
-    let some : (length fed == 0) ≡ false = ne_eqb (length fed) 0 (λ e. absurd (omega (arith, e, len))) in
-    let feed : has_feed fed ≡ true =
-    ap (λ t. cond t false (get_or fed (length fed - 1) 0 == 10)) some ∙ ap (λ k. k == 10) (ap (λ i. get_or fed i 0) last ∙ get_or_at l 10 [] 0 (length l) refl) in
-    let end : at + length fed ≡ at + length l + 1 = omega (arith, len) in
-    ap (λ t. cond t (line_item (at + length fed) (take (length fed - 1) fed)) None) feed
-    ∙ ap (λ i. line_item (at + length fed) (take i fed)) last ∙ ap (line_item (at + length fed)) (take_at l (10 ∷ []) (length l) refl) ∙ ap (λ n. line_item n l) end
+    let end : at + length (l ++ 10 ∷ []) ≡ at + length l + 1 = omega (arith, length-append l (10 ∷ [])) in
+    ap (option_and_then (line_item (at + length (l ++ 10 ∷ [])))) (without_feed-append l) ∙ ap (λ n. line_item n l) end
 
 -- a last line without one
-unfed_last : (c : ℕ) (cs : List ℕ) → unfed (c ∷ cs) ≡ true → (get_or (c ∷ cs) (length cs) 0 == 10) ≡ false
-unfed_last c [] u = not_fed (is_feed c) (and_first (not (is_feed c)) true u)
-  where
-    and_first : (a b : Bool) → (a && b) ≡ true → a ≡ true
-    and_first true b e = refl
-    and_first false b e = e
-
-    not_fed : (a : Bool) → not a ≡ true → a ≡ false
-    not_fed true e = absurd cc
-    not_fed false e = refl
-unfed_last c (d ∷ cs) u = unfed_last d cs (and_second (not (is_feed c)) (unfed (d ∷ cs)) u)
-  where
-    and_second : (a b : Bool) → (a && b) ≡ true → b ≡ true
-    and_second true b e = e
-    and_second false b e = absurd cc
-
-last_read : (end c : ℕ) (cs : List ℕ) → unfed (c ∷ cs) ≡ true → line_read end (c ∷ cs) ≡ None
-last_read end c cs u =
-    let some : (length (c ∷ cs) == 0) ≡ false = ne_eqb (suc (length cs)) 0 (λ e. absurd (omega (arith, e))) in
-    let last : length (c ∷ cs) - 1 ≡ length cs = let z : suc (length cs) - 1 ≡ length cs = omega arith in z in
-    let feed : has_feed (c ∷ cs) ≡ false =
-    ap (λ t. cond t false (get_or (c ∷ cs) (length (c ∷ cs) - 1) 0 == 10)) some ∙ ap (λ i. get_or (c ∷ cs) i 0 == 10) last ∙ unfed_last c cs u in
-    ap (λ t. cond t (line_item end (take (length (c ∷ cs) - 1) (c ∷ cs))) None) feed
+last_read : (end : ℕ) (l : List ℕ) → unfed l ≡ true → line_read end l ≡ None
+last_read end l u = ap (option_and_then (line_item end)) (without_feed-none l (λ k d below e. false≢true (sym (ap not (eq-eqb _ 10 e)) ∙ AllPass-from_list_all (λ b. not (is_feed b)) l u k d below)))
 
 items_joined : (at : ℕ) (ps : List (List ℕ)) → AllByRecursion (λ l. unfed l ≡ true) ps → items_from at ps ≡ items_left at (joined ps)
 unfolding joined
 items_joined at [] all = refl
 items_joined at ([] ∷ []) all = refl
-items_joined at ((c ∷ cs) ∷ []) all = ap (λ (o : Option Item). o ∷ []) (sym (last_read (at + length (c ∷ cs)) c cs all.0))
+items_joined at ((c ∷ cs) ∷ []) all = ap (λ (o : Option Item). o ∷ []) (sym (last_read (at + length (c ∷ cs)) (c ∷ cs) all.0))
 items_joined at (l ∷ m ∷ ms) all =
     let end : at + length (l ++ 10 ∷ []) ≡ at + length l + 1 = omega (arith, length-append l (10 ∷ [])) in
     one l m ms at

@@ -16,21 +16,13 @@ ghost use Rattle.cert_checker.specs.DraftReading.{doc_at, moments};
 ghost use Rattle.cert_checker.specs.Refusals.{Fails, FitsLine};
 ghost use Rattle.cert_checker.specs.TreeStack.{behind_line, line_at};
 
-use crate::leaves::value;
 use crate::refused::Refused;
 use app_graph::{App, Message, ModeSet};
-use proof_tree::PlanLine;
+use proof_tree::{PlanLine, value};
 use sched_model::apps_of;
 use std::alloc::{AllocError, Global};
 use tick_num::Time;
 use ttw_text::Parts;
-
-/// Whether the names are the same.
-pub(crate) fn is_same(name: &[u8], other: &[u8]) -> bool
-    ensures { result ≡ bytes_eq name.now other.now }
-{
-    name == other
-}
 
 /// The offset of the task of this name, which is due at the line.
 pub(crate) fn task_of(name: &[u8], line: u64, item: &PlanLine<'_>) -> Result<u64, Refused>
@@ -41,7 +33,7 @@ pub(crate) fn task_of(name: &[u8], line: u64, item: &PlanLine<'_>) -> Result<u64
 {
     match item {
         PlanLine::Task(found, offset) => {
-            if !is_same(found, name) {
+            if *found != name {
                 return Err(Refused::Names(line));
             }
             Ok(*offset)
@@ -71,7 +63,7 @@ pub(crate) fn message_of(name: &[u8], line: u64, item: &PlanLine<'_>) -> Result<
 {
     match item {
         PlanLine::Message(named, opens, closes) => {
-            if !is_same(named, name) {
+            if *named != name {
                 return Err(Refused::Names(line));
             }
             Ok((*opens, *closes))
@@ -147,7 +139,7 @@ fn message_named<'a>(apps: &'a [App], name: &[u8]) -> Option<&'a Message>
 {
     apps.iter()
         .flat_map(|app| app.messages.as_slice())
-        .find(|message| is_same(name, message.name.as_bytes()))
+        .find(|message| name == message.name.as_bytes())
 }
 
 /// The number of the mode's message of this name. None exactly where no message has it.

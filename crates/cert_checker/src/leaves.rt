@@ -5,22 +5,9 @@ ghost use Rattle.proof_tree.specs.Grammar.{value};
 ghost use Rattle.proof_tree.specs.TreeLines.{is_negative};
 ghost use Rattle.cert_checker.specs.Following.{constraint_at, goes_round};
 
+use proof_tree::value;
 use tick_num::Diff;
-use ttw_text::{Parts, read_u64};
-
-/// The greatest number of a plan document.
-const GREATEST: u64 = 2_000_000_000_000;
-
-/// The number that a word spells, where it is within a document's limit, else 0.
-pub(crate) fn value(word: &[u8]) -> u64
-    ensures number { result ≡ value word.now }
-    ensures few { result ≤ 2000000000000 }
-{
-    match read_u64(word) {
-        None => 0,
-        Some(n) => { if n <= GREATEST { n } else { 0 } }
-    }
-}
+use ttw_text::Parts;
 
 /// The constraint of this number, where there is one.
 fn constraint_at(list: &[Diff], number: u64) -> Option<Diff>

@@ -3,29 +3,20 @@
 ghost use Rattle.std.specs.Prelude.{◌≡◌, ◌-◌, ◌^◌, ◌<◌, ◌≤◌, length, take, slice_index_or, Some, None, IfOk, IfErr, IfSome};
 ghost use Rattle.proof_tree.specs.Accepting.{line_item};
 ghost use Rattle.proof_tree.specs.PlanLines.{meaning};
-ghost use Rattle.cert_checker.specs.DocumentLines.{has_feed, line_read};
+ghost use Rattle.cert_checker.specs.DocumentLines.{line_read};
 ghost use Rattle.cert_checker.specs.Refusals.{FitsLine};
 ghost use Rattle.cert_checker.specs.declared.refused.Refused.TheVariants as refused;
 
 use crate::refused::Refused;
 use proof_tree::laws::lines_are_exact;
 use proof_tree::{PlanLine, item};
+use ttw_text::without_feed;
 
 /// The most bytes of a document.
 const LIMIT: usize = 4_294_967_296;
 
 /// The most bytes of a line, without its line feed.
 const LONGEST: usize = 4096;
-
-/// Whether a line ends with a line feed.
-fn has_feed(line: &[u8]) -> bool
-    ensures { result ≡ has_feed line.now }
-{
-    if line.is_empty() {
-        return false;
-    }
-    line[line.len() - 1] == b'\n'
-}
 
 /// What a line says, without its line feed, that ends with it at the place `end`; none where it is past a limit or has none of the forms.
 fn item_within(end: usize, line: &[u8]) -> Option<PlanLine<'_>>
@@ -52,11 +43,8 @@ pub(crate) fn read_line(bytes: &[u8], end: usize, line: u64) -> Result<PlanLine<
     ensures none { IfErr result (λ e. line_read end bytes.now ≡ None) }
     ensures err { IfErr result (λ e. e ≡ refused.Grammar line) }
 {
-    if !has_feed(bytes) {
+    let Some(text) = without_feed(bytes) else {
         return Err(Refused::Grammar(line));
-    }
-    match item_within(end, &bytes[..bytes.len() - 1]) {
-        None => Err(Refused::Grammar(line)),
-        Some(item) => Ok(item),
-    }
+    };
+    item_within(end, text).ok_or(Refused::Grammar(line))
 }

@@ -13,7 +13,6 @@ ghost use Rattle.cert_checker.specs.Refusals.{Fails, FitsLine};
 ghost use Rattle.cert_checker.specs.TreeStack.{behind_line, line_at};
 
 use crate::counts::{Inside, Next};
-use crate::entries::is_same;
 use crate::refused::Refused;
 use app_graph::ModeSet;
 use proof_tree::PlanLine;
@@ -87,7 +86,7 @@ fn take_name(set: &ModeSet, mode: u32, line: u64, item: &PlanLine<'_>) -> Result
 {
     match item {
         PlanLine::Mode(name) => {
-            if !is_same(name, mode_name(set, mode)) {
+            if *name != mode_name(set, mode) {
                 return Err(Refused::Names(line));
             }
             Ok(())
