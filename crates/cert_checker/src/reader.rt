@@ -1,6 +1,6 @@
 //! The lines of a document.
 
-ghost use Rattle.std.specs.Prelude.{◌≡◌, ◌-◌, ◌^◌, ◌<◌, ◌≤◌, length, take, slice_index_or, Some, None, IfOk, IfErr, IfSome};
+ghost use Rattle.std.specs.Prelude.{◌≡◌, Some, None, IfOk, IfErr, IfSome};
 ghost use Rattle.proof_tree.specs.Accepting.{line_item};
 ghost use Rattle.proof_tree.specs.PlanLines.{meaning};
 ghost use Rattle.cert_checker.specs.DocumentLines.{line_read};
