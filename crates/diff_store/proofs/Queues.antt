@@ -1,0 +1,98 @@
+-- A queue that has each waiting variable once: one more, one less, and that there is room
+use Rattle.std.proofs.Common.{◌≡◌, ◌≢◌, ℕ, zero, suc, ◌+◌, ◌<◌, ◌≤◌, Bool, true, false, List, [], ◌∷◌, ◌++◌, length, set, refl, sym, ◌∙◌, ap, subst, arith, ◌⊎◌, inl, inr, ⊎_elim}
+use Rattle.std.specs.List.{Contains}
+use Rattle.std.proofs.lemmas.Bool.{cases_eq, cases_lt, both_ways, false_from_ne_true}
+use Rattle.std.proofs.lemmas.List.{length-append, get_or_append_left, get_or_push, get_or-set_same, get_or-set_other, get_or_past}
+use Rattle.std.proofs.lemmas.List.Elements.{Contains-push, Contains-append_left}
+use Rattle.tick_num.proofs.Pigeons.{two_alike}
+use Rattle.diff_store.specs.Causes.{beside}
+use Rattle.diff_store.specs.Raising.{waits_in, NoneWaits}
+use Rattle.diff_store.specs.Queued.{Queued}
+
+waits_low : (ws : List Bool) (x : ℕ) → waits_in ws x ≡ true → x < length ws
+waits_low ws x h =
+    ⊎_elim
+    (λ (l : x < length ws). l)
+    (λ (past : length ws ≤ x). absurd (both_ways (waits_in ws x) (get_or_past ws x false past) h))
+    (cases_lt x (length ws))
+
+module _ (q : List ℕ) (ws : List Bool) (x : ℕ) (low : x < length ws) (idle : waits_in ws x ≡ false) (h : Queued q ws) where
+  -- x is not in the queue
+  absent : (i : ℕ) → i < length q → beside q i ≡ x → ⊥
+  absent i l e = both_ways (waits_in ws x) idle (sym (ap (waits_in ws) e) ∙ h.marked i l)
+
+  here_or_last : (i : ℕ) → i < length (q ++ x ∷ []) → (i < length q) ⊎ (length q ≡ i)
+  here_or_last i l =
+      let size = length-append q (x ∷ []) in
+      ⊎_elim
+      (λ (less : i < length q). inl less)
+      (λ (ge : length q ≤ i). inr (omega (arith, l, ge, size)))
+      (cases_lt i (length q))
+
+  pub queued_more : Queued (q ++ x ∷ []) (set ws x true)
+  queued_more = record {
+    marked = λ i l. ⊎_elim
+        (λ (less : i < length q).
+        let e = get_or_append_left q (x ∷ []) 0 i less in
+        let ne : beside q i ≢ x = absent i less in
+        ap (waits_in (set ws x true)) e ∙ get_or-set_other ws x (beside q i) true false ne ∙ h.marked i less)
+        (λ (last : length q ≡ i). ap (waits_in (set ws x true)) (get_or_push q x 0 i last) ∙ get_or-set_same ws x true false low)
+        (here_or_last i l);
+    queued = λ y w. ⊎_elim
+        (λ (e : y ≡ x). subst (Contains (q ++ x ∷ [])) (sym e) (Contains-push q x))
+        (λ (ne : y ≡ x → ⊥). let ne' : y ≢ x = ne in Contains-append_left q (x ∷ []) y (h.queued y (sym (get_or-set_other ws x y true false ne') ∙ w)))
+        (cases_eq y x);
+    once = λ i j less l e. ⊎_elim
+        (λ (j_less : j < length q).
+        let i_less : i < length q = omega (arith, less, j_less) in
+        h.once i j less j_less (sym (get_or_append_left q (x ∷ []) 0 i i_less) ∙ e ∙ get_or_append_left q (x ∷ []) 0 j j_less))
+        (λ (last : length q ≡ j).
+        let i_less : i < length q = omega (arith, less, last) in
+        absent i i_less (sym (get_or_append_left q (x ∷ []) 0 i i_less) ∙ e ∙ get_or_push q x 0 j last))
+        (here_or_last j l);
+  }
+
+  -- x is in none of the places that are taken
+  pub queued_room : length q < length ws
+  queued_room = ⊎_elim
+      (λ (l : length q < length ws). l)
+      (λ (full : length ws ≤ length q).
+      let w = two_alike (length ws) (beside (x ∷ q)) (small full) in
+      absurd (apart w.0 w.1 w.2 (omega (arith, w.3, full)) w.4))
+      (cases_lt (length q) (length ws))
+    where
+      small : length ws ≤ length q → (i : ℕ) → i < suc (length ws) → beside (x ∷ q) i < length ws
+      small full zero l = low
+      small full (suc i) l = waits_low ws (beside q i) (h.marked i (omega (arith, full, l)))
+
+      apart : (i j : ℕ) → i < j → j < suc (length q) → beside (x ∷ q) i ≡ beside (x ∷ q) j → ⊥
+      apart i zero less l e = omega (arith, less)
+      apart zero (suc j) less l e = absent j (omega (arith, l)) (sym e)
+      apart (suc i) (suc j) less l e = h.once i j (omega (arith, less)) (omega (arith, l)) e
+
+module _ (q : List ℕ) (ws : List Bool) (x : ℕ) (h : Queued (x ∷ q) ws) where
+  pub queued_waits : waits_in ws x ≡ true
+  queued_waits = h.marked 0 (omega arith)
+
+  pub queued_low : x < length ws
+  queued_low = waits_low ws x queued_waits
+
+  other : (i : ℕ) → i < length q → beside q i ≢ x
+  other i l e = h.once 0 (suc i) (omega arith) (omega (arith, l)) (sym e)
+
+  contains_rest : (y : ℕ) → y ≢ x → Contains (x ∷ q) y → Contains q y
+  contains_rest y ne (zero, l, e) = absurd (ne (sym e))
+  contains_rest y ne (suc i, l, e) = (i, omega (arith, l), e)
+
+  pub queued_less : Queued q (set ws x false)
+  queued_less = record {
+    marked = λ i l. get_or-set_other ws x (beside q i) false false (other i l) ∙ h.marked (suc i) (omega (arith, l));
+    queued = λ y w. ⊎_elim
+        (λ (e : y ≡ x). absurd (both_ways (waits_in (set ws x false) y) (ap (waits_in (set ws x false)) e ∙ get_or-set_same ws x false false queued_low) w))
+        (λ (ne : y ≡ x → ⊥). let ne' : y ≢ x = ne in contains_rest y ne' (h.queued y (sym (get_or-set_other ws x y false false ne') ∙ w)))
+        (cases_eq y x);
+    once = λ i j less l e. h.once (suc i) (suc j) (omega (arith, less)) (omega (arith, l)) e;
+  }
+
+pub queued_none : (ws : List Bool) → Queued [] ws → NoneWaits ws
+queued_none ws h x = false_from_ne_true (waits_in ws x) (λ w. let c = h.queued x w in let l = c.1 in omega (arith, l))

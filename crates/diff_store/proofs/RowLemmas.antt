@@ -1,0 +1,119 @@
+-- Rows of values: one more start, the last row, and rows that stay
+use Rattle.std.proofs.Common.{◌≡◌, ℕ, ◌+◌, ◌*◌, ◌-◌, ◌<◌, ◌≤◌, ◌↔◌, List, [], ◌∷◌, ◌++◌, length, take, drop, All, refl, sym, ◌∙◌, ap, subst, arith, ◌⊎◌, inl, inr, ⊎_elim, ℤ, ◌-ℤ◌, ◌≤ℤ◌}
+use Rattle.std.proofs.lemmas.Int.{ints}
+use Rattle.std.proofs.lemmas.Bool.{cases_lt}
+use Rattle.std.proofs.lemmas.List.{length-append, length-drop, get_or_append_left, get_or_push, take_rest, take-take, drop-take, drop_at}
+use Rattle.tick_num.specs.declared.differences.Diff.{Diff}
+use Rattle.tick_num.specs.Differences.{InRange, Meets, listed}
+use Rattle.diff_store.specs.Bounds.{Small}
+use Rattle.diff_store.specs.Leasts.{at, LeastOfFirst, Low}
+use Rattle.diff_store.specs.Causes.{beside, newest}
+use Rattle.diff_store.specs.Rows.{Rows, row, Solved}
+use Rattle.diff_store.proofs.Bounded.{low_values}
+
+-- a constraint more that the values meet
+pub met_more : (ds : List Diff) (v : ℕ → ℤ) → 0 < length ds → LeastOfFirst (length ds - 1) ds v → Meets v (newest ds) ↔ LeastOfFirst (length ds) ds v
+met_more ds v some h = (
+  λ m. record {
+    solves = λ i l. ⊎_elim
+        (λ (older : i < length ds - 1). h.solves i older)
+        (λ (last : length ds - 1 ≤ i). subst (λ j. Meets v (at ds j)) (let e : length ds - 1 ≡ i = omega (arith, last, l) in e) m)
+        (cases_lt i (length ds - 1));
+    from_zero = h.from_zero;
+    least = λ w met z. h.least w (λ i l. met i (omega (arith, l))) z;
+  },
+  λ all. all.solves (length ds - 1) (omega (arith, some)),
+)
+
+-- the values of the last row
+pub last_low : (n k : ℕ) (ds : List Diff) (rows : List ℤ) → n ≤ 768 → k ≤ length ds → InRange n ds → All Small ds → LeastOfFirst k ds (listed (drop (length rows - n) rows)) →
+    Low (listed (take (length rows - (length rows - n)) (drop (length rows - n) rows)))
+last_low n k ds rows few within range small h = subst (λ (vs : List ℤ). Low (listed vs)) (sym (take_rest rows (length rows - n))) (low_values n k ds (drop (length rows - n) rows) few within range small h)
+
+module _ (n : ℕ) (rows : List ℤ) (starts : List ℕ) (h : Rows n rows starts) where
+  pub last_start : beside starts (length starts - 1) ≡ length rows - n
+  last_start = let t = h.top in omega (arith, t)
+
+  pub last_fits : n ≤ length rows
+  last_fits = let t = h.top in omega (arith, t)
+
+  pub last_row : row n rows (beside starts (length starts - 1)) ≡ drop (length rows - n) rows
+  last_row =
+      ap (row n rows) last_start
+      ∙ ap (λ k. take k (drop (length rows - n) rows)) (let l = last_fits in let e : n ≡ length rows - (length rows - n) = omega (arith, l) in e)
+      ∙ take_rest rows (length rows - n)
+
+  -- a start more
+  pub rows_more : (rows' : List ℤ) (s : ℕ) → beside starts (length starts - 1) ≤ s → s ≤ n * length starts → s + n ≡ length rows' → Rows n rows' (starts ++ s ∷ [])
+  rows_more rows' s after room top =
+      let size = length-append starts (s ∷ []) in
+      let some = h.some in
+      record {
+        some = omega (arith, size);
+        rise = λ j k le l. ⊎_elim
+            (λ (k_less : k < length starts).
+            let a = get_or_append_left starts (s ∷ []) 0 j (omega (arith, le, k_less)) in
+            let b = get_or_append_left starts (s ∷ []) 0 k k_less in
+            let r = h.rise j k le k_less in
+            omega (arith, a, b, r))
+            (λ (k_last : length starts ≤ k).
+            let b = get_or_push starts s 0 k (let e : length starts ≡ k = omega (arith, k_last, l, size) in e) in
+            ⊎_elim
+            (λ (j_less : j < length starts).
+            let a = get_or_append_left starts (s ∷ []) 0 j j_less in
+            let r = h.rise j (length starts - 1) (omega (arith, j_less)) (omega (arith, some)) in
+            omega (arith, a, b, r, after))
+            (λ (j_last : length starts ≤ j).
+            let a = get_or_push starts s 0 j (let e : length starts ≡ j = omega (arith, j_last, le, l, size) in e) in
+            omega (arith, a, b))
+            (cases_lt j (length starts)))
+            (cases_lt k (length starts));
+        room = λ k l. ⊎_elim
+            (λ (less : k < length starts). let a = get_or_append_left starts (s ∷ []) 0 k less in let r = h.room k less in omega (arith, a, r))
+            (λ (last : length starts ≤ k).
+            let e : length starts ≡ k = omega (arith, last, l, size) in
+            let b = get_or_push starts s 0 k e in
+            let r = ap (λ m. n * m) e in
+            omega (arith, b, r, room))
+            (cases_lt k (length starts));
+        top =
+            let e : length starts ≡ length (starts ++ s ∷ []) - 1 = omega (arith, size) in
+            let b = get_or_push starts s 0 (length (starts ++ s ∷ []) - 1) e in
+            omega (arith, b, top);
+      }
+
+  -- the same row once more
+  pub rows_again : Rows n rows (starts ++ (length rows - n) ∷ [])
+  rows_again =
+      let t = h.top in
+      let some = h.some in
+      let r = h.room (length starts - 1) (omega (arith, some)) in
+      let e : length starts ≡ length starts - 1 + 1 = omega (arith, some) in
+      let m = ap (λ k. n * k) e in
+      rows_more rows (length rows - n) (omega (arith, t)) (omega (arith, t, r, m)) (omega (arith, t))
+
+  -- a new row
+  pub rows_copied : (rows' : List ℤ) → length rows' ≡ length rows + n → Rows n rows' (starts ++ length rows ∷ [])
+  rows_copied rows' longer =
+      let t = h.top in
+      let some = h.some in
+      let r = h.room (length starts - 1) (omega (arith, some)) in
+      let e : length starts ≡ length starts - 1 + 1 = omega (arith, some) in
+      let m = ap (λ k. n * k) e in
+      rows_more rows' (length rows) (omega (arith, t)) (omega (arith, t, r, m)) (omega (arith, longer))
+
+  -- the new row is a copy
+  pub copied_row : (rows' : List ℤ) → rows' ≡ rows ++ drop (length rows - n) rows → drop (length rows' - n) rows' ≡ row n rows (beside starts (length starts - 1))
+  copied_row rows' e =
+      let last = drop (length rows - n) rows in
+      ap (λ (us : List ℤ). drop (length us - n) us) e
+      ∙ ap (λ k. drop k (rows ++ last)) (let a = length-append rows last in let b = length-drop (length rows - n) rows in let l = last_fits in let f : length (rows ++ last) - n ≡ length rows = omega (arith, a, b, l) in f)
+      ∙ drop_at rows last (length rows) refl
+      ∙ sym last_row
+
+-- rows that agree as far as a place have the same rows before it
+pub same_row : (n s m : ℕ) (rows rows' : List ℤ) → s + n ≤ m → take m rows ≡ take m rows' → row n rows s ≡ row n rows' s
+same_row n s m rows rows' fits e =
+    sym (drop-take s n rows)
+    ∙ ap (drop s) (sym (take-take (s + n) m rows fits) ∙ ap (take (s + n)) e ∙ take-take (s + n) m rows' fits)
+    ∙ drop-take s n rows'

@@ -1,0 +1,183 @@
+-- From the least values of the older constraints to those of the whole list, by raises along chains
+use Rattle.std.proofs.Common.{◌≡◌, ◌≢◌, ℕ, zero, suc, ◌+◌, ◌-◌, ◌<◌, ◌≤◌, Bool, true, false, List, length, set, Option, None, Some, refl, sym, ◌∙◌, ap, subst, arith, ◌⊎◌, inl, inr, ⊎_elim, ℤ, pos, ◌-ℤ◌, ◌≤ℤ◌, ◌<ℤ◌}
+use Rattle.std.proofs.lemmas.Int.{ints}
+use Rattle.std.proofs.lemmas.Bool.{cases_lt, cases_eq, both_ways}
+use Rattle.std.proofs.lemmas.List.{length-set, get_or-set_other}
+use Rattle.tick_num.specs.declared.differences.Diff.{Diff}
+use Rattle.tick_num.specs.Differences.{Meets, listed}
+use Rattle.diff_store.specs.Leasts.{at, MeetsFirst, LeastOfFirst, Low}
+use Rattle.diff_store.specs.Chains.{IsLatest, Chained, linked, reach}
+use Rattle.diff_store.specs.Causes.{newest}
+use Rattle.diff_store.specs.Raising.{waits_in, NoneWaits, Raising, Awaits, left_to_do}
+
+-- the same values, with other constraints left to look at
+left_to : (ds : List Diff) (vs : List ℤ) (cs : List ℕ) (ws ws' : List Bool) (x b x' b' : ℕ) → length ws' ≡ length vs → ((i : ℕ) → i < length ds → Awaits ds vs ws' x' b' i) → Raising ds vs cs ws x b → Raising ds vs cs ws' x' b'
+left_to ds vs cs ws ws' x b x' b' size awaits s = record {
+  some = s.some;
+  causes_size = s.causes_size;
+  waits_size = size;
+  base = s.base;
+  least = s.least;
+  low = s.low;
+  above = s.above;
+  under = s.under;
+  kept = s.kept;
+  awaits = awaits;
+  time = s.time;
+  now = s.now;
+  earlier = s.earlier;
+  caused = s.caused;
+}
+
+module _ (ds : List Diff) (vs : List ℤ) (cs : List ℕ) (ws : List Bool) where
+  -- only the constraints of the chain are left
+  pub narrowed : (x b : ℕ) (link : Option ℕ) → IsLatest ds x b link → Raising ds vs cs ws x b → Raising ds vs cs ws x (reach link)
+  narrowed x b link latest s = left_to ds vs cs ws ws x b x (reach link) s.waits_size
+      (λ i l. ⊎_elim
+      (λ (m : Meets (listed vs) (at ds i)). inl m)
+      (λ (o : (waits_in ws (at ds i).x ≡ true) ⊎ (((at ds i).x ≡ x) × (i < b))). ⊎_elim
+      (λ (w : waits_in ws (at ds i).x ≡ true). inr (inl w))
+      (λ (e : ((at ds i).x ≡ x) × (i < b)). ⊎_elim
+      (λ (less : i < reach link). inr (inr (e.0, less)))
+      (λ (ge : reach link ≤ i). absurd (latest.none_between i ge e.1 e.0))
+      (cases_lt i (reach link)))
+      o)
+      (s.awaits i l))
+      s
+
+  -- none is left
+  pub looked_at : (x x' : ℕ) → Raising ds vs cs ws x 0 → Raising ds vs cs ws x' 0
+  looked_at x x' s = left_to ds vs cs ws ws x 0 x' 0 s.waits_size
+      (λ i l. ⊎_elim
+      (λ (m : Meets (listed vs) (at ds i)). inl m)
+      (λ (o : (waits_in ws (at ds i).x ≡ true) ⊎ (((at ds i).x ≡ x) × (i < 0))). ⊎_elim
+      (λ (w : waits_in ws (at ds i).x ≡ true). inr (inl w))
+      (λ (e : ((at ds i).x ≡ x) × (i < 0)). absurd (let e1 = e.1 in omega (arith, e1)))
+      o)
+      (s.awaits i l))
+      s
+
+  -- a waiting variable is taken
+  pub taken : (x : ℕ) → Raising ds vs cs ws 0 0 → Raising ds vs cs (set ws x false) x (length ds)
+  taken x s = left_to ds vs cs ws (set ws x false) 0 0 x (length ds) (length-set ws x false ∙ s.waits_size)
+      (λ i l. ⊎_elim
+      (λ (e : (at ds i).x ≡ x). inr (inr (e, l)))
+      (λ (ne : (at ds i).x ≡ x → ⊥). ⊎_elim
+      (λ (m : Meets (listed vs) (at ds i)). inl m)
+      (λ (o : (waits_in ws (at ds i).x ≡ true) ⊎ (((at ds i).x ≡ 0) × (i < 0))). ⊎_elim
+      (λ (w : waits_in ws (at ds i).x ≡ true). inr (inl (let ne' : (at ds i).x ≢ x = ne in get_or-set_other ws x (at ds i).x false false ne' ∙ w)))
+      (λ (e : ((at ds i).x ≡ 0) × (i < 0)). absurd (let e1 = e.1 in omega (arith, e1)))
+      o)
+      (s.awaits i l))
+      (cases_eq (at ds i).x x))
+      s
+
+  -- the older constraints from the x of the newest one are met, since that keeps its value
+  pub newest_done : (b : ℕ) → b ≡ length ds - 1 → Raising ds vs cs ws (newest ds).x b → Raising ds vs cs ws 0 0
+  newest_done b e s = left_to ds vs cs ws ws (newest ds).x b 0 0 s.waits_size
+      (λ i l. ⊎_elim
+      (λ (m : Meets (listed vs) (at ds i)). inl m)
+      (λ (o : (waits_in ws (at ds i).x ≡ true) ⊎ (((at ds i).x ≡ (newest ds).x) × (i < b))). ⊎_elim
+      (λ (w : waits_in ws (at ds i).x ≡ true). inr (inl w))
+      (λ (h : ((at ds i).x ≡ (newest ds).x) × (i < b)).
+      let h1 = h.1 in
+      let m = s.least.solves i (omega (arith, h1, e)) in
+      let a = s.above (at ds i).y in
+      let v = ap (listed vs) h.0 in
+      let u = ap s.base h.0 in
+      let k = s.kept in
+      inl (omega (arith, ints, m, a, v, u, k)))
+      o)
+      (s.awaits i l))
+      s
+
+  -- nothing waits any more
+  pub settled : NoneWaits ws → Raising ds vs cs ws 0 0 → LeastOfFirst (length ds) ds (listed vs)
+  settled none s = record {
+    solves = λ i l. ⊎_elim
+        (λ (m : Meets (listed vs) (at ds i)). m)
+        (λ (o : (waits_in ws (at ds i).x ≡ true) ⊎ (((at ds i).x ≡ 0) × (i < 0))). ⊎_elim
+        (λ (w : waits_in ws (at ds i).x ≡ true). absurd (both_ways (waits_in ws (at ds i).x) (none (at ds i).x) w))
+        (λ (e : ((at ds i).x ≡ 0) × (i < 0)). absurd (let e1 = e.1 in omega (arith, e1)))
+        o)
+        (s.awaits i l);
+    from_zero = λ x. let z = s.least.from_zero x in let a = s.above x in omega (arith, ints, z, a);
+    least = λ w m z x.
+        let some = s.some in
+        let older : MeetsFirst (length ds - 1) ds w = λ i l. m i (omega (arith, l)) in
+        let up = s.least.least w older z (newest ds).x in
+        let last = m (length ds - 1) (omega (arith, some)) in
+        s.under w older z (omega (arith, ints, up, last)) x;
+  }
+
+-- before the newest constraint is looked at
+pub raising_init : (ds : List Diff) (vs : List ℤ) (cs : List ℕ) (ws : List Bool) → 0 < length ds → LeastOfFirst (length ds - 1) ds (listed vs) → Low (listed vs) → length cs ≡ length vs → length ws ≡ length vs → Raising ds vs cs ws (newest ds).x (length ds - 1 + 1)
+raising_init ds vs cs ws some least low ec ew = record {
+  some = some;
+  causes_size = ec;
+  waits_size = ew;
+  base = listed vs;
+  least = least;
+  low = low;
+  above = λ y. omega (arith, ints);
+  under = λ w m z n y. least.least w m z y;
+  kept = refl;
+  awaits = λ i l. ⊎_elim
+      (λ (older : i < length ds - 1). inl (least.solves i older))
+      (λ (last : length ds - 1 ≤ i). let e : i ≡ length ds - 1 = omega (arith, last, l) in inr (inr (ap (λ j. (at ds j).x) e, omega (arith, e))))
+      (cases_lt i (length ds - 1));
+  time = λ y. 0;
+  now = 1;
+  earlier = λ y. omega arith;
+  caused = λ y up. absurd (omega (arith, ints, up));
+}
+
+-- ---- along the chain of x
+pub record Along (ds : List Diff) (x : ℕ) (link : Option ℕ) (vs : List ℤ) (cs : List ℕ) (ws : List Bool) (most size : ℕ) : Type 0 where
+  pub bound : ℕ
+  pub bounded : bound ≤ length ds
+  pub latest : IsLatest ds x bound link
+  pub state : Raising ds vs cs ws x (reach link)
+  pub falls : left_to_do vs ws ≤ most
+  pub waits : length ws ≡ size
+
+pub along_init : (n : ℕ) (ds : List Diff) (heads nexts : List (Option ℕ)) (x : ℕ) (vs : List ℤ) (cs : List ℕ) (ws : List Bool) → Chained n ds heads nexts → x < n → Raising ds vs cs ws x (length ds) → Along ds x (linked heads x) vs cs ws (left_to_do vs ws) (length ws)
+along_init n ds heads nexts x vs cs ws chained low s = record {
+  bound = length ds;
+  bounded = omega arith;
+  latest = chained.head x low;
+  state = narrowed ds vs cs ws x (length ds) (linked heads x) (chained.head x low) s;
+  falls = omega arith;
+  waits = refl;
+}
+
+module _ (ds : List Diff) (x i : ℕ) (vs : List ℤ) (cs : List ℕ) (ws : List Bool) (most size : ℕ) (a : Along ds x (Some i) vs cs ws most size) where
+  pub along_within : i < length ds
+  along_within = let b = a.bounded in let l = a.latest.within in omega (arith, b, l)
+
+  pub along_state : Raising ds vs cs ws (at ds i).x (i + 1)
+  along_state = subst (λ y. Raising ds vs cs ws y (i + 1)) (sym a.latest.same) a.state
+
+  pub along_more : (n : ℕ) (heads nexts : List (Option ℕ)) (vs' : List ℤ) (cs' : List ℕ) (ws' : List Bool) → Chained n ds heads nexts → Raising ds vs' cs' ws' (at ds i).x i → left_to_do vs' ws' ≤ left_to_do vs ws → length ws' ≡ length ws → Along ds x (linked nexts i) vs' cs' ws' most size
+  along_more n heads nexts vs' cs' ws' chained s less same =
+      let latest = subst (λ y. IsLatest ds y i (linked nexts i)) a.latest.same (chained.next i along_within) in
+      record {
+        bound = i;
+        bounded = let w = along_within in omega (arith, w);
+        latest = latest;
+        state = narrowed ds vs' cs' ws' x i (linked nexts i) latest (subst (λ y. Raising ds vs' cs' ws' y i) a.latest.same s);
+        falls = let f = a.falls in omega (arith, less, f);
+        waits = same ∙ a.waits;
+      }
+
+pub along_ends : (ds : List Diff) (x : ℕ) (vs : List ℤ) (cs : List ℕ) (ws : List Bool) (most size : ℕ) (link : Option ℕ) → link ≡ None → Along ds x link vs cs ws most size → Raising ds vs cs ws x 0
+along_ends ds x vs cs ws most size link e a = subst (λ (l : Option ℕ). Raising ds vs cs ws x (reach l)) e a.state
+
+-- the next link is further back
+pub link_falls : (ds : List Diff) (x i : ℕ) (next : Option ℕ) → IsLatest ds x i next → reach next < i + 1
+link_falls ds x i next latest = let w = latest.within in omega (arith, w)
+
+-- ---- until none waits
+pub record Settling (ds : List Diff) (vs : List ℤ) (cs : List ℕ) (ws : List Bool) (size : ℕ) : Type 0 where
+  pub state : Raising ds vs cs ws 0 0
+  pub waits : length ws ≡ size

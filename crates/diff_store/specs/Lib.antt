@@ -1,0 +1,9 @@
+pub mod Bounds
+pub mod Causes
+pub mod Chains
+pub mod Leasts
+pub mod Queued
+pub mod Raising
+pub mod Rows
+pub mod Standing
+pub mod Storing

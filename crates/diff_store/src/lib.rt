@@ -1,0 +1,13 @@
+//! Constraints on differences that are pushed and popped, with the least values of those that
+//! stand, or a cycle of bounds that forbids them.
+#![tactic(auto)]
+
+mod chains;
+mod cycles;
+mod raising;
+mod rows;
+mod store;
+mod worklist;
+
+pub use store::{Pushed, Store};
+

@@ -1,0 +1,151 @@
+//! A list of constraints that grows and shrinks at its end.
+
+ghost use Rattle.std.specs.Prelude.{◌≡◌, ℕ, ◌-◌, ◌<◌, ◌≤◌, ◌↔◌, ℤ, [], ◌∷◌, ◌++◌, length, take, IfOk};
+ghost use Rattle.tick_num.specs.Differences.{LeastValues, MeetsAll, NegativeCycle};
+ghost use Rattle.diff_store.specs.Bounds.{Small};
+
+use crate::chains::{link, unlink};
+use crate::cycles::close;
+use crate::rows::answer;
+use crate::worklist::Worklist;
+use std::alloc::{AllocError, Global};
+use std::marker::Model;
+use tick_num::{Diff, Time};
+
+/// Whether the list has a solution with the constraint that was pushed.
+#[derive(Clone, Copy, Debug, PartialEq, Eq)]
+pub enum Pushed {
+    /// It has: the store has its least values.
+    Solvable,
+    /// It has none: the store has a cycle of constraints whose bounds sum below 0.
+    Closed,
+}
+
+/// A list of constraints, with what it was found to give.
+#[derive(Drop)]
+pub struct Store {
+    /// The number of variables.
+    variables: usize,
+    /// How many constraints the list may have.
+    constraints: usize,
+    list: Vec<Diff>,
+    /// The newest constraint from each variable.
+    heads: Vec<Option<u32>>,
+    /// Beside each constraint the next older one from its `x`.
+    nexts: Vec<Option<u32>>,
+    /// Values by variable, a row of them for each push that changed them, and a first row of 0.
+    rows: Vec<Time>,
+    /// Where the row of the first constraints of the list starts, for each number of them.
+    starts: Vec<usize>,
+    /// The position of the constraint that last raised each variable.
+    causes: Vec<u32>,
+    /// A cycle, from `start` on.
+    cycle: Vec<u32>,
+    start: usize,
+    worklist: Worklist,
+}
+
+impl Model for Store {
+    ghost use Rattle.diff_store.specs.Storing.{Storing};
+
+    ghost Value = { Storing };
+
+    ghost use Rattle.diff_store.specs.Standing.{Standing};
+
+    ghost view = { λ s. record { variables = s.variables; constraints = s.constraints; list = s.list.items } };
+
+    ghost invariant = { Standing };
+}
+
+impl Store {
+    /// Takes room for up to `len` constraints on the variables 0 to `n - 1`; none is pushed yet.
+    pub fn reserve(alloc: Global, n: u32, len: usize) -> Result<Store, AllocError>
+        requires few { n ≤ 768 }
+        requires long { len < 4_294_967_296 }
+        ensures variables { IfOk result (λ s. s.variables ≡ n) }
+        ensures constraints { IfOk result (λ s. s.constraints ≡ len) }
+        ensures list { IfOk result (λ s. s.list ≡ []) }
+    {
+        let variables = n as usize;
+        let mut rows = Vec::with_capacity(alloc, variables * (len + 1))?;
+        rows.resize(variables, 0)?;
+        let mut starts = Vec::with_capacity(alloc, len + 1)?;
+        starts.push(0)?;
+        Ok(Store {
+            variables,
+            constraints: len,
+            list: Vec::with_capacity(alloc, len)?,
+            heads: vec![in alloc; None; variables]?,
+            nexts: Vec::with_capacity(alloc, len)?,
+            rows,
+            starts,
+            causes: vec![in alloc; 0; variables]?,
+            cycle: vec![in alloc; 0; variables]?,
+            start: 0,
+            worklist: Worklist::reserve(alloc, variables)?,
+        })
+    }
+
+    /// Adds a constraint to the list, which has a solution before.
+    pub fn push(&mut self, d: Diff) -> Pushed
+        requires room { length self.old.list < self.old.constraints }
+        requires x { d.x < self.old.variables }
+        requires y { d.y < self.old.variables }
+        requires small { Small d }
+        requires solvable { (v : ℕ → ℤ) × MeetsAll v self.old.list }
+        ensures list { self.new.list ≡ self.old.list ++ d ∷ [] }
+        ensures solvable { (result ≡ Pushed.Solvable) ↔ ((v : ℕ → ℤ) × MeetsAll v self.new.list) }
+        ensures closed { (result ≡ Pushed.Closed) ↔ ((v : ℕ → ℤ) → MeetsAll v self.new.list → ⊥) }
+        ensures variables { self.new.variables ≡ self.old.variables }
+        ensures constraints { self.new.constraints ≡ self.old.constraints }
+    {
+        link(&mut self.list, &mut self.heads, &mut self.nexts, d);
+        let solvable = answer(
+            &self.list,
+            &self.heads,
+            &self.nexts,
+            &mut self.rows,
+            &mut self.starts,
+            &mut self.causes,
+            &mut self.worklist,
+        );
+        if solvable {
+            return Pushed::Solvable;
+        }
+        self.worklist.clear();
+        self.start = close(&self.list, &self.causes, &mut self.cycle);
+        Pushed::Closed
+    }
+
+    /// Takes the last pushed constraint away.
+    pub fn pop(&mut self)
+        requires { 0 < length self.old.list }
+        ensures list { self.new.list ≡ take (length self.old.list - 1) self.old.list }
+        ensures variables { self.new.variables ≡ self.old.variables }
+        ensures constraints { self.new.constraints ≡ self.old.constraints }
+    {
+        unlink(&mut self.list, &mut self.heads, &mut self.nexts);
+        let last = self.list.len();
+        self.rows.truncate(self.starts[last] + self.variables);
+        self.starts.truncate(last + 1);
+    }
+
+    /// The value of a variable in the least of the solutions from 0 on.
+    pub fn least(&self, var: u32) -> Time
+        requires var { var < self.now.variables }
+        requires solvable { (v : ℕ → ℤ) × MeetsAll v self.now.list }
+        ensures { (v : ℕ → ℤ) → LeastValues self.now.list v → result ≡ v var }
+    {
+        let start = self.rows.len() - self.variables;
+        self.rows[start + var as usize]
+    }
+
+    /// The positions in the list that go round, whose bounds sum below 0.
+    pub fn cycle(&self) -> &[u32]
+        requires { (v : ℕ → ℤ) → MeetsAll v self.now.list → ⊥ }
+        ensures cycle { NegativeCycle self.now.list result.now }
+        ensures size { length result.now ≤ self.now.variables }
+    {
+        &self.cycle[self.start..]
+    }
+}
