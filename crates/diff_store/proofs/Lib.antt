@@ -5,4 +5,5 @@ pub mod Queues
 pub mod Raises
 pub mod RowLemmas
 pub mod Settling
+pub mod Stores
 pub mod Ticks

@@ -55,3 +55,6 @@ test_exact v c w m low high = (
   test_met v c w m low high,
   λ meets. ⊎_elim (λ e. e) (λ e. absurd (let b = test_broken v c w m low high e in omega (arith, ints, b, meets))) (cases_Bool _),
 )
+
+pub tick_is : (x : ℤ) → pos 0 ≤ℤ x → x ≤ℤ pos 7_690_000_000_000_000 → to_z w64 (of_z w64 x) ≡ x
+tick_is x low high = same_in _ _ (omega (arith, ints, low, high))

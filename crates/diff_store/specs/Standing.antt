@@ -26,6 +26,7 @@ pub record Standing (s : Inside) : Type 0 where
   pub answered : Answered s.variables s.list.items s.rows.items s.starts.items (drop s.start s.cycle.items)
   pub causes : length s.causes.items ≡ s.variables
   pub cycle : length s.cycle.items ≡ s.variables
+  pub start : s.start ≤ s.variables
   pub waits : length s.worklist ≡ s.variables
   pub none_waits : NoneWaits s.worklist
   pub list_room : s.constraints ≤ vec_capacity s.list

@@ -1,10 +1,20 @@
 //! Chains of the constraints with one `x`.
 
-ghost use Rattle.std.specs.Prelude.{◌≡◌, ◌+◌, ◌-◌, ◌<◌, ◌≤◌, ◌^◌, [], ◌∷◌, ◌++◌, length, take, vec_capacity};
+ghost use Rattle.std.specs.Prelude.{◌≡◌, ◌+◌, ◌-◌, ◌<◌, ◌≤◌, ◌^◌, [], ◌∷◌, ◌++◌, length, take, replicate, IfOk, vec_capacity};
 ghost use Rattle.diff_store.specs.Chains.{Chained};
 ghost use Rattle.diff_store.specs.Causes.{newest};
 
+use std::alloc::{AllocError, Global};
 use tick_num::Diff;
+
+/// The heads of the chains of `n` variables, of which none has a constraint yet.
+pub(crate) fn no_heads(alloc: Global, n: usize) -> Result<Vec<Option<u32>>, AllocError>
+    ensures { IfOk result (λ heads. heads.items ≡ replicate n None) }
+{
+    let mut heads = Vec::with_capacity(alloc, n)?;
+    heads.resize(n, None)?;
+    Ok(heads)
+}
 
 /// Adds a constraint to the list and to the chain of its `x`.
 pub(crate) fn link(

@@ -1,6 +1,6 @@
 //! Rows of values by variable, one for each push that changed them.
 
-ghost use Rattle.std.specs.Prelude.{◌≡◌, ℕ, ◌+◌, ◌*◌, ◌-◌, ◌<◌, ◌≤◌, ◌↔◌, ◌^◌, [], ◌∷◌, ◌++◌, length, take, drop, All, IsTrue, vec_capacity};
+ghost use Rattle.std.specs.Prelude.{◌≡◌, ℕ, ◌+◌, ◌*◌, ◌-◌, ◌<◌, ◌≤◌, ◌↔◌, ◌^◌, [], ◌∷◌, ◌++◌, length, take, drop, replicate, pos, IfOk, All, IsTrue, vec_capacity};
 ghost use Rattle.std.specs.Bool.{OnTrue, OnFalse};
 ghost use Rattle.tick_num.specs.Differences.{InRange, listed};
 ghost use Rattle.diff_store.specs.Bounds.{Small};
@@ -12,7 +12,29 @@ ghost use Rattle.diff_store.specs.Rows.{Rows, Solved};
 
 use crate::raising::{answer_newest, is_met};
 use crate::worklist::Worklist;
+use std::alloc::{AllocError, Global};
 use tick_num::{Diff, Time};
+
+/// A row of `n` zeros, with room for so many values.
+pub(crate) fn first_row(alloc: Global, n: usize, room: usize) -> Result<Vec<Time>, AllocError>
+    requires { n ≤ room }
+    ensures zeros { IfOk result (λ rows. rows.items ≡ replicate n (pos 0)) }
+    ensures room { IfOk result (λ rows. room ≤ vec_capacity rows) }
+{
+    let mut rows = Vec::with_capacity(alloc, room)?;
+    rows.resize(n, 0)?;
+    Ok(rows)
+}
+
+/// The start of the first row, with room for so many starts.
+pub(crate) fn first_start(alloc: Global, room: usize) -> Result<Vec<usize>, AllocError>
+    ensures start { IfOk result (λ starts. starts.items ≡ 0 ∷ []) }
+    ensures room { IfOk result (λ starts. room ≤ vec_capacity starts) }
+{
+    let mut starts = Vec::with_capacity(alloc, room)?;
+    starts.push(0)?;
+    Ok(starts)
+}
 
 /// Adds a copy of the last row, of `n` values.
 fn copy_row(n: usize, rows: &mut Vec<Time>, starts: &mut Vec<usize>)

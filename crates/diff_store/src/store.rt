@@ -4,9 +4,9 @@ ghost use Rattle.std.specs.Prelude.{◌≡◌, ℕ, ◌-◌, ◌<◌, ◌≤◌,
 ghost use Rattle.tick_num.specs.Differences.{LeastValues, MeetsAll, NegativeCycle};
 ghost use Rattle.diff_store.specs.Bounds.{Small};
 
-use crate::chains::{link, unlink};
+use crate::chains::{link, no_heads, unlink};
 use crate::cycles::close;
-use crate::rows::answer;
+use crate::rows::{answer, first_row, first_start};
 use crate::worklist::Worklist;
 use std::alloc::{AllocError, Global};
 use std::marker::Model;
@@ -67,15 +67,13 @@ impl Store {
         ensures list { IfOk result (λ s. s.list ≡ []) }
     {
         let variables = n as usize;
-        let mut rows = Vec::with_capacity(alloc, variables * (len + 1))?;
-        rows.resize(variables, 0)?;
-        let mut starts = Vec::with_capacity(alloc, len + 1)?;
-        starts.push(0)?;
+        let rows = first_row(alloc, variables, variables * (len + 1))?;
+        let starts = first_start(alloc, len + 1)?;
         Ok(Store {
             variables,
             constraints: len,
             list: Vec::with_capacity(alloc, len)?,
-            heads: vec![in alloc; None; variables]?,
+            heads: no_heads(alloc, variables)?,
             nexts: Vec::with_capacity(alloc, len)?,
             rows,
             starts,

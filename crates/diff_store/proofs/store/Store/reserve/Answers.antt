@@ -1,0 +1,46 @@
+use Rattle.std.proofs.Common.{◌≡◌, ◌+◌, ◌<◌, ◌≤◌, ◌∷◌, [], ℕ, ℤ, pos, List, Option, None, All, Bool, false, length, replicate, sym, ap, ◌∙◌, subst, arith}
+use Rattle.std.proofs.lemmas.List.{length-replicate}
+use Rattle.std.proofs.lemmas.List.Elements.{All-nil}
+use Rattle.tick_num.specs.declared.differences.Diff.{Diff}
+use Rattle.tick_num.specs.Differences.{InRange}
+use Rattle.diff_store.specs.Bounds.{Small}
+use Rattle.diff_store.specs.Chains.{Chained}
+use Rattle.diff_store.specs.Raising.{NoneWaits}
+use Rattle.diff_store.specs.Rows.{Rows}
+use Rattle.diff_store.specs.Standing.{Answered}
+use Rattle.diff_store.proofs.Stores.{empty_chained, empty_rows, empty_answered, none_waits}
+use Rattle.diff_store.proofs.store.Store.reserve.Goals as goal
+
+pub invariant_of-result : goal.invariant_of-result
+invariant_of-result c =
+    let n = c.args.n in
+    let list = c.in_ok-with_capacity.ensures.items in
+    let heads = c.in_ok-no_heads.ensures in
+    let nexts = c.in_ok-with_capacity-2.ensures.items in
+    let rows = c.in_ok-rows.ensures.zeros in
+    let starts = c.in_ok-starts.ensures.start in
+    let waits = c.in_ok-reserve.ensures in
+    record {
+      few = c.requires.few;
+      long = c.requires.long;
+      fits = let e = ap length list in omega (arith, e);
+      range = subst (InRange n) (sym list) (All-nil (λ (d : Diff). (d.x < n) × (d.y < n)));
+      small = subst (λ (ds : List Diff). All Small ds) (sym list) (All-nil Small);
+      chained = subst (λ (ds : List Diff). Chained n ds c.in_ok-no_heads.field-0.items c.in_ok-with_capacity-2.field-0.items) (sym list)
+          (subst (λ (hs : List (Option ℕ)). Chained n [] hs c.in_ok-with_capacity-2.field-0.items) (sym heads)
+          (subst (λ (ns : List (Option ℕ)). Chained n [] (replicate n None) ns) (sym nexts) (empty_chained n)));
+      rows = subst (λ (vs : List ℤ). Rows n vs c.in_ok-starts.starts.items) (sym rows) (subst (Rows n (replicate n (pos 0))) (sym starts) (empty_rows n));
+      starts = let a = ap length starts in let b = ap length list in omega (arith, a, b);
+      answered = subst (λ (ds : List Diff). Answered n ds c.in_ok-rows.rows.items c.in_ok-starts.starts.items c.in_ok-vec-2.field-0.items) (sym list)
+          (subst (λ (vs : List ℤ). Answered n [] vs c.in_ok-starts.starts.items c.in_ok-vec-2.field-0.items) (sym rows)
+          (subst (λ (ss : List ℕ). Answered n [] (replicate n (pos 0)) ss c.in_ok-vec-2.field-0.items) (sym starts) (empty_answered n c.in_ok-vec-2.field-0.items)));
+      causes = let l = c.in_ok-vec.ensures.len in omega (arith, l);
+      cycle = let l = c.in_ok-vec-2.ensures.len in omega (arith, l);
+      start = omega arith;
+      waits = ap length waits ∙ length-replicate n false;
+      none_waits = subst NoneWaits (sym waits) (none_waits n);
+      list_room = c.in_ok-with_capacity.ensures.capacity;
+      nexts_room = c.in_ok-with_capacity-2.ensures.capacity;
+      starts_room = let r = c.in_ok-starts.ensures.room in omega (arith, r);
+      rows_room = c.in_ok-rows.ensures.room;
+    }
