@@ -40,11 +40,7 @@ pub(crate) fn link(
 }
 
 /// Takes the newest constraint off the list and off the chain of its `x`.
-pub(crate) fn unlink(
-    list: &mut Vec<Diff>,
-    heads: &mut [Option<u32>],
-    nexts: &mut Vec<Option<u32>>,
-)
+pub(crate) fn unlink(list: &mut Vec<Diff>, heads: &mut [Option<u32>], nexts: &mut Vec<Option<u32>>)
     requires chained { Chained (length heads.old) list.old.items heads.old nexts.old.items }
     requires some { 0 < length list.old.items }
     requires x { (newest list.old.items).x < length heads.old }

@@ -11,3 +11,5 @@ mod worklist;
 
 pub use store::{Pushed, Store};
 
+#[cfg(test)]
+mod tests;

@@ -14,9 +14,9 @@ pub invariant_of-self-2 : goal.invariant_of-self-2
 invariant_of-self-2 c = (
   queued_less c.pop_front.new.self.items c.self.inside.waits.items c.in_ok-variable.variable (subst (λ q. Queued q c.self.inside.waits.items) c.in_ok-variable.ensures.items c.self.invariant.0),
   let b = c.self.invariant.1 in
-  let e = length-set c.self.inside.waits.items c.in_ok-variable.variable false in
-  let k = c.in_ok-variable.ensures.capacity in
-  omega (arith, b, e, k),
+      let e = length-set c.self.inside.waits.items c.in_ok-variable.variable false in
+      let k = c.in_ok-variable.ensures.capacity in
+      omega (arith, b, e, k),
 )
 
 pub returns-clause-range : goal.returns-clause-range
