@@ -1,7 +1,7 @@
 -- What is left to do falls: a value that rises, a variable that is taken
-use Rattle.std.proofs.Common.{◌≡◌, ℕ, ◌+◌, ◌*◌, ◌<◌, ◌≤◌, Bool, true, false, cond, List, length, set, get_or, ap, arith, ℤ, pos, ◌-ℤ◌, ◌≤ℤ◌, ◌<ℤ◌}
+use Rattle.std.proofs.Common.{◌≡◌, ℕ, ◌+◌, ◌<◌, ◌≤◌, Bool, true, false, cond, List, length, set, ap, arith, ℤ, pos, ◌-ℤ◌, ◌≤ℤ◌, ◌<ℤ◌}
 use Rattle.std.specs.Int.RustNames.{unsigned_abs}
-use Rattle.std.specs.List.{sum_by, count_by}
+use Rattle.std.specs.List.{count_by}
 use Rattle.std.proofs.lemmas.Int.{ints}
 use Rattle.std.proofs.lemmas.List.Sums.{sum_by-set}
 use Rattle.tick_num.specs.Differences.{listed}
@@ -31,6 +31,3 @@ raise_falls vs ws y w l size less top =
     let g = gap_less (listed vs y) w less top in
     let c = count_more ws y (omega (arith, l, size)) in
     omega (arith, s, g, c)
-
-pub take_falls : (vs : List ℤ) (ws : List Bool) (x : ℕ) → x < length ws → waits_in ws x ≡ true → left_to_do vs (set ws x false) < left_to_do vs ws
-take_falls vs ws x l h = let c = count_less ws x l h in omega (arith, c)

@@ -9,7 +9,7 @@ use Rattle.std.proofs.lemmas.List.Elements.{All-from_recursion}
 use Rattle.tick_num.specs.declared.differences.Diff.{Diff}
 use Rattle.tick_num.specs.Differences.{diff, InRange, NegativeCycle, named, sum_ℤ, Closes}
 use Rattle.tick_num.proofs.Pigeons.{two_alike}
-use Rattle.diff_store.specs.Leasts.{at, MeetsFirst}
+use Rattle.diff_store.specs.Leasts.{at}
 use Rattle.diff_store.specs.Causes.{beside, newest, IsCause, LeadsHome}
 
 -- the variable k causes back from the x of the newest constraint

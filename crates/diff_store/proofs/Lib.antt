@@ -6,4 +6,5 @@ pub mod Raises
 pub mod RowLemmas
 pub mod Settling
 pub mod Stores
+pub mod Testing
 pub mod Ticks

@@ -1,6 +1,5 @@
 -- Rows of values: one more start, the last row, and rows that stay
-use Rattle.std.proofs.Common.{◌≡◌, ℕ, ◌+◌, ◌*◌, ◌-◌, ◌<◌, ◌≤◌, ◌↔◌, List, [], ◌∷◌, ◌++◌, length, take, drop, All, refl, sym, ◌∙◌, ap, subst, arith, ◌⊎◌, inl, inr, ⊎_elim, ℤ, ◌-ℤ◌, ◌≤ℤ◌}
-use Rattle.std.proofs.lemmas.Int.{ints}
+use Rattle.std.proofs.Common.{◌≡◌, ℕ, ◌+◌, ◌*◌, ◌-◌, ◌<◌, ◌≤◌, ◌↔◌, List, [], ◌∷◌, ◌++◌, length, take, drop, All, refl, sym, ◌∙◌, ap, subst, arith, ⊎_elim, ℤ}
 use Rattle.std.proofs.lemmas.Bool.{cases_lt}
 use Rattle.std.proofs.lemmas.List.{length-append, length-drop, get_or_append_left, get_or_push, take_rest, take-take, drop-take, drop_at}
 use Rattle.tick_num.specs.declared.differences.Diff.{Diff}
@@ -8,7 +7,7 @@ use Rattle.tick_num.specs.Differences.{InRange, Meets, listed}
 use Rattle.diff_store.specs.Bounds.{Small}
 use Rattle.diff_store.specs.Leasts.{at, LeastOfFirst, Low}
 use Rattle.diff_store.specs.Causes.{beside, newest}
-use Rattle.diff_store.specs.Rows.{Rows, row, Solved}
+use Rattle.diff_store.specs.Rows.{Rows, row}
 use Rattle.diff_store.proofs.Bounded.{low_values}
 
 -- a constraint more that the values meet

@@ -1,8 +1,8 @@
 -- What a store keeps: shorter lists keep their least values, and the whole list has its own or a cycle
-use Rattle.std.proofs.Common.{◌≡◌, ℕ, zero, suc, Option, None, false, get_or, replicate, w64, to_z, of_z, ◌+◌, ◌*◌, ◌-◌, ◌<◌, ◌≤◌, ◌↔◌, List, [], ◌∷◌, ◌++◌, length, take, drop, All, refl, sym, ◌∙◌, ap, subst, arith, ◌⊎◌, inl, inr, ⊎_elim, ℤ, pos, ◌-ℤ◌, ◌≤ℤ◌}
+use Rattle.std.proofs.Common.{◌≡◌, ℕ, zero, suc, None, false, get_or, replicate, w64, to_z, of_z, ◌+◌, ◌-◌, ◌<◌, ◌≤◌, List, [], ◌∷◌, ◌++◌, length, take, drop, All, refl, sym, ◌∙◌, ap, subst, arith, ◌⊎◌, inl, inr, ⊎_elim, ℤ, pos}
 use Rattle.std.proofs.lemmas.Int.{ints}
 use Rattle.std.proofs.lemmas.Bool.{cases_lt}
-use Rattle.std.proofs.lemmas.List.{length-append, get_or_append_left, get_or-take, get_or-drop, length-replicate, get_or_default, length_push, take-take, take_all}
+use Rattle.std.proofs.lemmas.List.{get_or_append_left, get_or-take, get_or-drop, length-replicate, get_or_default, length_push, take-take, take_all}
 use Rattle.std.proofs.lemmas.List.Elements.{All-push}
 use Rattle.tick_num.specs.declared.differences.Diff.{Diff}
 use Rattle.tick_num.specs.Differences.{diff, Meets, MeetsAll, LeastValues, NegativeCycle, InRange, listed}

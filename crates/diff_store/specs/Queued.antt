@@ -1,5 +1,5 @@
 -- Variables in a queue, each once
-use Rattle.std.specs.Prelude.{◌≡◌, ℕ, ◌<◌, Bool, true, List, length, slice_index_or, Contains}
+use Rattle.std.specs.Prelude.{◌≡◌, ℕ, ◌<◌, Bool, true, List, length, Contains}
 use Rattle.diff_store.specs.Causes.{beside}
 use Rattle.diff_store.specs.Raising.{waits_in}
 

@@ -1,5 +1,5 @@
 -- Values that the newest constraint has raised
-use Rattle.std.specs.Prelude.{◌≡◌, ℕ, ◌+◌, ◌*◌, ◌-◌, ◌<◌, ◌≤◌, ◌⊎◌, Bool, true, cond, List, length, slice_index_or, false, sum_by, count_by, ℤ, pos, ◌-ℤ◌, ◌≤ℤ◌, ◌<ℤ◌, unsigned_abs}
+use Rattle.std.specs.Prelude.{◌≡◌, ℕ, ◌+◌, ◌*◌, ◌-◌, ◌<◌, ◌⊎◌, Bool, true, List, length, slice_index_or, false, sum_by, count_by, ℤ, pos, ◌-ℤ◌, ◌≤ℤ◌, ◌<ℤ◌, unsigned_abs}
 use Rattle.tick_num.specs.declared.differences.Diff.{Diff}
 use Rattle.tick_num.specs.Differences.{Meets, listed}
 use Rattle.diff_store.specs.Leasts.{at, MeetsFirst, FromZero, LeastOfFirst, Low}

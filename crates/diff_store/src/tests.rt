@@ -20,7 +20,8 @@ fn made(alloc: Global, n: u32, len: usize) -> Result<Store, AllocError>
     ensures size { IfOk result (λ s. length s.list ≡ 0) }
     ensures solvable { IfOk result (λ s. (v : ℕ → ℤ) × MeetsAll v s.list) }
 {
-    Store::reserve(alloc, n, len)
+    let store = Store::reserve(alloc, n, len)?;
+    Ok(store)
 }
 
 /// Whether a store over `n` variables takes the constraint.
@@ -103,6 +104,10 @@ fn small_systems(rt: HostRuntime) -> Result<(), Fail> {
 /// The last step first, so that each push raises all that were raised before.
 #[test]
 fn long_chain(rt: HostRuntime) -> Result<(), Fail> {
+    let mut positions = Vec::new(rt.alloc());
+    for i in 0..500 {
+        positions.push(i)?;
+    }
     let mut store = made(rt.alloc(), 500, 500)?;
     for i in 0..499 {
         push(
@@ -119,17 +124,13 @@ fn long_chain(rt: HostRuntime) -> Result<(), Fail> {
     for i in 0..500 {
         assert_eq!(rt; store.least(i), i64::from(i));
     }
-    let mut positions = Vec::new(rt.alloc());
-    for i in 0..500 {
-        positions.push(i)?;
-    }
     let back = Diff {
         x: 499,
         y: 0,
         c: 498,
     };
     close(&rt, &mut store, 500, back, &positions);
-    for _i in 0..499 {
+    for _i in 0..499_u32 {
         pop(&mut store);
     }
     assert_eq!(rt; store.least(499), 0);
@@ -157,7 +158,7 @@ fn redundant_pushes(rt: HostRuntime) -> Result<(), Fail> {
             let x = i % 499;
             push(&rt, &mut store, 500, Diff { x, y: x + 1, c: -1 });
         }
-        for _i in 0..4_000 {
+        for _i in 0..4_000_u32 {
             pop(&mut store);
         }
     }

@@ -1,4 +1,4 @@
-use Rattle.std.proofs.Common.{◌≡◌, ◌<◌, ◌≤◌, ℕ, ℤ, pos, ◌-ℤ◌, List, Bool, true, length, set, subst, sym, ap, ◌∙◌, arith}
+use Rattle.std.proofs.Common.{◌≤◌, ℤ, pos, ◌-ℤ◌, List, Bool, set, subst, sym, ◌∙◌, arith}
 use Rattle.tick_num.specs.Differences.{diff, listed}
 use Rattle.diff_store.specs.Leasts.{at}
 use Rattle.diff_store.specs.Raising.{Raising, left_to_do}

@@ -1,4 +1,4 @@
-use Rattle.std.proofs.Common.{ℕ, List, Bool, length, subst, sym, ◌∙◌, ap, arith, false, set}
+use Rattle.std.proofs.Common.{List, Bool, length, subst, sym, ap, arith, false}
 use Rattle.std.proofs.lemmas.List.{length-set}
 use Rattle.diff_store.specs.Raising.{Raising, NoneWaits}
 use Rattle.diff_store.proofs.Settling.{taken, looked_at, settled}

@@ -1,4 +1,4 @@
-use Rattle.std.proofs.Common.{◌≡◌, ◌-◌, [], ◌∷◌, ◌++◌, ℕ, ℤ, List, length, drop, subst, sym, ap, ◌∙◌, arith}
+use Rattle.std.proofs.Common.{◌≡◌, ◌-◌, [], ◌∷◌, ◌++◌, ℕ, ℤ, List, length, subst, sym, ap, ◌∙◌, arith}
 use Rattle.tick_num.specs.Differences.{listed}
 use Rattle.diff_store.specs.Leasts.{LeastOfFirst}
 use Rattle.diff_store.specs.Causes.{beside}

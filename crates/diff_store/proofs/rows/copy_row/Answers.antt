@@ -1,5 +1,4 @@
 use Rattle.std.proofs.Common.{◌≡◌, ◌+◌, [], ◌∷◌, ◌++◌, ℕ, List, length, subst, sym, ap, ◌∙◌, arith}
-use Rattle.std.proofs.lemmas.Grind.{common_steps}
 use Rattle.diff_store.specs.Rows.{Rows}
 use Rattle.diff_store.proofs.RowLemmas.{rows_copied, last_fits}
 use Rattle.diff_store.proofs.rows.copy_row.Goals as goal

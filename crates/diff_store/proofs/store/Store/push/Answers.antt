@@ -1,13 +1,12 @@
-use Rattle.std.proofs.Common.{◌≡◌, ◌∷◌, [], ◌++◌, ◌+◌, ◌<◌, ◌≤◌, ℕ, ℤ, List, Option, length, drop, refl, sym, ap, ◌∙◌, subst, arith, inl, inr}
+use Rattle.std.proofs.Common.{◌≡◌, ◌<◌, ℕ, ℤ, List, Option, length, drop, refl, sym, ap, ◌∙◌, subst, arith, inl, inr}
 use Rattle.std.proofs.lemmas.List.{length_push, with_items_is}
 use Rattle.tick_num.specs.declared.differences.Diff.{Diff}
 use Rattle.tick_num.specs.Differences.{MeetsAll, InRange, NegativeCycle, listed}
 use Rattle.tick_num.proofs.Cycles.{cycles_exclude}
-use Rattle.diff_store.specs.Bounds.{Small}
 use Rattle.diff_store.specs.Storing.{Storing}
 use Rattle.diff_store.specs.Causes.{beside}
 use Rattle.diff_store.specs.Chains.{Chained}
-use Rattle.diff_store.specs.Rows.{Rows, Solved, row}
+use Rattle.diff_store.specs.Rows.{Rows, row}
 use Rattle.diff_store.proofs.Stores.{now_solved, solved_older, pushed_range, pushed_small, pushed_answered, meets_all}
 use Rattle.diff_store.proofs.store.Store.push.Goals as goal
 

@@ -1,4 +1,4 @@
-use Rattle.std.proofs.Common.{◌≡◌, ◌<◌, ◌≤◌, ◌∷◌, [], ◌++◌, ℕ, List, Bool, get_or, length, slice_set, subst, sym, ap, ◌∙◌, arith, true, false}
+use Rattle.std.proofs.Common.{◌≡◌, ◌<◌, [], ◌∷◌, ◌++◌, ℕ, List, Bool, get_or, length, slice_set, subst, sym, ap, ◌∙◌, arith, true, false}
 use Rattle.std.proofs.lemmas.List.{get_or_default, length-set}
 use Rattle.diff_store.specs.Queued.{Queued}
 use Rattle.diff_store.specs.Raising.{waits_in}
@@ -20,7 +20,7 @@ pub invariant_of-self : goal.invariant_of-self
 invariant_of-self c =
     let ws = c.self.inside.waits.items in
     let low : c.args.variable < length ws = (let e = ap length c.self.view_is in omega (arith, e, c.requires)) in
-    let e = rw c.unwrap.ensures at c.push_back.ensures.items in
+    let e : c.push_back.new.self.items ≡ c.self.inside.queue.items ++ c.args.variable ∷ [] = rw c.unwrap.ensures at c.push_back.ensures.items in
     let size = length-set ws c.args.variable true in
     let b = c.self.invariant.1 in
     let k = c.push_back.ensures.capacity in (

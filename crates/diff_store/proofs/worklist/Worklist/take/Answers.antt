@@ -1,4 +1,4 @@
-use Rattle.std.proofs.Common.{◌≡◌, subst, sym, ap, ◌≤◌, ◌<◌, length, arith}
+use Rattle.std.proofs.Common.{subst, ap, length, arith}
 use Rattle.std.proofs.lemmas.List.{length-set}
 use Rattle.std.proofs.Common.{false}
 use Rattle.diff_store.specs.Queued.{Queued}
