@@ -129,20 +129,23 @@ pushed_answered n m ds ds' ds'' d rows rows' starts starts' cycle cycle' r size 
 }
 
 -- ---- what is shown
-pub least_is : (n : ℕ) (ds : List Diff) (rows : List ℤ) (starts : List ℕ) → n ≤ 768 → InRange n ds → All Small ds → Rows n rows starts → length starts ≡ length ds + 1 → Solved n ds rows starts (length ds) →
-    (x : ℕ) → x < n → (t : ℤ) → t ≡ get_or rows (length rows - n + x) (pos 0) → (v : ℕ → ℤ) → LeastValues ds v → to_z w64 (of_z w64 t) ≡ v x
-least_is n ds rows starts few range small r size h x l t is v least =
-    let vs = row n rows (beside starts (length ds)) in
-    let low = low_values n (length ds) ds vs few (omega arith) range small h x in
-    let zero = h.from_zero x in
-    let start : beside starts (length ds) ≡ length rows - n =
-    ap (beside starts) (let e : length ds ≡ length starts - 1 = omega (arith, size) in e) ∙ last_start n rows starts r in
-    let here : listed vs x ≡ t =
-    get_or-take n (drop (beside starts (length ds)) rows) x (pos 0) l
-    ∙ get_or-drop (beside starts (length ds)) rows x (pos 0)
-    ∙ ap (λ k. get_or rows (k + x) (pos 0)) start
-    ∙ sym is in
-    ap (λ u. to_z w64 (of_z w64 u)) (sym here) ∙ tick_is (listed vs x) zero low ∙ least_unique ds (listed vs) v (least_values ds (listed vs) h) least x
+module _ (n : ℕ) (ds : List Diff) (rows : List ℤ) (starts : List ℕ) (few : n ≤ 768) (range : InRange n ds) (small : All Small ds) (r : Rows n rows starts) (size : length starts ≡ length ds + 1) (h : Solved n ds rows starts (length ds))
+    (x : ℕ) (l : x < n) (t : ℤ) (is : t ≡ get_or rows (length rows - n + x) (pos 0)) where
+  pub least_at : (v : ℕ → ℤ) × LeastValues ds v × (to_z w64 (of_z w64 t) ≡ v x)
+  least_at =
+      let vs = row n rows (beside starts (length ds)) in
+      let low = low_values n (length ds) ds vs few (omega arith) range small h x in
+      let start : beside starts (length ds) ≡ length rows - n =
+      ap (beside starts) (let e : length ds ≡ length starts - 1 = omega (arith, size) in e) ∙ last_start n rows starts r in
+      let here : listed vs x ≡ t =
+      get_or-take n (drop (beside starts (length ds)) rows) x (pos 0) l
+      ∙ get_or-drop (beside starts (length ds)) rows x (pos 0)
+      ∙ ap (λ k. get_or rows (k + x) (pos 0)) start
+      ∙ sym is in
+      (listed vs, least_values ds (listed vs) h, ap (λ u. to_z w64 (of_z w64 u)) (sym here) ∙ tick_is (listed vs x) (h.from_zero x) low)
+
+  pub least_is : (v : ℕ → ℤ) → LeastValues ds v → to_z w64 (of_z w64 t) ≡ v x
+  least_is v least = let a = least_at in a.2 ∙ least_unique ds a.0 v a.1 least x
 
 -- ---- at the start
 listed-zeros : (n y : ℕ) → listed (replicate n (pos 0)) y ≡ pos 0

@@ -21,7 +21,8 @@ pub enum Pushed {
     Closed,
 }
 
-/// A list of constraints, with what it was found to give.
+/// A list of constraints that grows and shrinks at its end, with its least values, or with a cycle
+/// where it has no solution.
 #[derive(Drop)]
 pub struct Store {
     /// The number of variables.
@@ -39,8 +40,9 @@ pub struct Store {
     starts: Vec<usize>,
     /// The position of the constraint that last raised each variable.
     causes: Vec<u32>,
-    /// A cycle, from `start` on.
+    /// A cycle of positions, at the end.
     cycle: Vec<u32>,
+    /// Where the cycle starts.
     start: usize,
     worklist: Worklist,
 }
@@ -58,7 +60,8 @@ impl Model for Store {
 }
 
 impl Store {
-    /// Takes room for up to `len` constraints on the variables 0 to `n - 1`; none is pushed yet.
+    /// Takes room for up to `len` constraints, fewer than 2^32, on the variables 0 to `n - 1`, at
+    /// most 768 of them. The list is empty. No other call takes memory.
     pub fn reserve(alloc: Global, n: u32, len: usize) -> Result<Store, AllocError>
         requires few { n ≤ 768 }
         requires long { len < 4_294_967_296 }
@@ -84,7 +87,8 @@ impl Store {
         })
     }
 
-    /// Adds a constraint to the list, which has a solution before.
+    /// Adds a constraint, with its bound within 10^13 of zero, to a list that has a solution, and
+    /// says whether it still has one. Only a `pop` may follow where it has none.
     pub fn push(&mut self, d: Diff) -> Pushed
         requires room { length self.old.list < self.old.constraints }
         requires x { d.x < self.old.variables }
@@ -115,7 +119,7 @@ impl Store {
         Pushed::Closed
     }
 
-    /// Takes the last pushed constraint away.
+    /// Takes the last pushed constraint away. The answers are then as they were before that push.
     pub fn pop(&mut self)
         requires { 0 < length self.old.list }
         ensures list { self.new.list ≡ take (length self.old.list - 1) self.old.list }
@@ -128,17 +132,19 @@ impl Store {
         self.starts.truncate(last + 1);
     }
 
-    /// The value of a variable in the least of the solutions from 0 on.
+    /// The value of a variable, in ticks, in the least of the list's solutions from 0 on.
     pub fn least(&self, var: u32) -> Time
         requires var { var < self.now.variables }
         requires solvable { (v : ℕ → ℤ) × MeetsAll v self.now.list }
-        ensures { (v : ℕ → ℤ) → LeastValues self.now.list v → result ≡ v var }
+        ensures least { (v : ℕ → ℤ) × LeastValues self.now.list v × (result ≡ v var) }
+        ensures one { (v : ℕ → ℤ) → LeastValues self.now.list v → result ≡ v var }
     {
         let start = self.rows.len() - self.variables;
         self.rows[start + var as usize]
     }
 
-    /// The positions in the list that go round, whose bounds sum below 0.
+    /// Positions in the list, where it has no solution: the constraints there go round, and their
+    /// bounds sum below 0. There are at most as many as variables.
     pub fn cycle(&self) -> &[u32]
         requires { (v : ℕ → ℤ) → MeetsAll v self.now.list → ⊥ }
         ensures cycle { NegativeCycle self.now.list result.now }
