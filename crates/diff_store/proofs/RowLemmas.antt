@@ -1,14 +1,12 @@
 -- Rows of values: one more start, the last row, and rows that stay
-use Rattle.std.proofs.Common.{◌≡◌, ℕ, ◌+◌, ◌*◌, ◌-◌, ◌<◌, ◌≤◌, ◌↔◌, List, [], ◌∷◌, ◌++◌, length, take, drop, All, refl, sym, ◌∙◌, ap, subst, arith, ⊎_elim, ℤ}
+use Rattle.std.proofs.Common.{◌≡◌, ℕ, ◌+◌, ◌*◌, ◌-◌, ◌<◌, ◌≤◌, ◌↔◌, List, [], ◌∷◌, ◌++◌, length, take, drop, sym, ◌∙◌, ap, subst, arith, ◌⊎◌, inl, inr, ⊎_elim, ℤ}
 use Rattle.std.proofs.lemmas.Bool.{cases_lt}
-use Rattle.std.proofs.lemmas.List.{length-append, length-drop, get_or_append_left, get_or_push, take_rest, take-take, drop-take, drop_at}
+use Rattle.std.proofs.lemmas.List.{length-append, get_or_append_left, get_or_push, take_rest, take-take, drop-take, take-append-drop, take-append-le}
 use Rattle.tick_num.specs.declared.differences.Diff.{Diff}
-use Rattle.tick_num.specs.Differences.{InRange, Meets, listed}
-use Rattle.diff_store.specs.Bounds.{Small}
-use Rattle.diff_store.specs.Leasts.{at, LeastOfFirst, Low}
+use Rattle.tick_num.specs.Differences.{Meets}
+use Rattle.diff_store.specs.Leasts.{at, LeastOfFirst}
 use Rattle.diff_store.specs.Causes.{beside, newest}
 use Rattle.diff_store.specs.Rows.{Rows, row}
-use Rattle.diff_store.proofs.Bounded.{low_values}
 
 -- a constraint more that the values meet
 pub met_more : (ds : List Diff) (v : ℕ → ℤ) → 0 < length ds → LeastOfFirst (length ds - 1) ds v → Meets v (newest ds) ↔ LeastOfFirst (length ds) ds v
@@ -24,11 +22,6 @@ met_more ds v some h = (
   λ all. all.solves (length ds - 1) (omega (arith, some)),
 )
 
--- the values of the last row
-pub last_low : (n k : ℕ) (ds : List Diff) (rows : List ℤ) → n ≤ 768 → k ≤ length ds → InRange n ds → All Small ds → LeastOfFirst k ds (listed (drop (length rows - n) rows)) →
-    Low (listed (take (length rows - (length rows - n)) (drop (length rows - n) rows)))
-last_low n k ds rows few within range small h = subst (λ (vs : List ℤ). Low (listed vs)) (sym (take_rest rows (length rows - n))) (low_values n k ds (drop (length rows - n) rows) few within range small h)
-
 module _ (n : ℕ) (rows : List ℤ) (starts : List ℕ) (h : Rows n rows starts) where
   pub last_start : beside starts (length starts - 1) ≡ length rows - n
   last_start = let t = h.top in omega (arith, t)
@@ -43,8 +36,12 @@ module _ (n : ℕ) (rows : List ℤ) (starts : List ℕ) (h : Rows n rows starts
       ∙ take_rest rows (length rows - n)
 
   -- a start more
-  pub rows_more : (rows' : List ℤ) (s : ℕ) → beside starts (length starts - 1) ≤ s → s ≤ n * length starts → s + n ≡ length rows' → Rows n rows' (starts ++ s ∷ [])
-  rows_more rows' s after room top =
+  pub rows_more : (rows' : List ℤ) (s : ℕ) → (s ≡ beside starts (length starts - 1)) ⊎ (beside starts (length starts - 1) + n ≤ s) → s ≤ n * length starts → s + n ≡ length rows' → Rows n rows' (starts ++ s ∷ [])
+  rows_more rows' s new room top =
+      let after : beside starts (length starts - 1) ≤ s = ⊎_elim
+      (λ (e : s ≡ beside starts (length starts - 1)). omega (arith, e))
+      (λ (l : beside starts (length starts - 1) + n ≤ s). omega (arith, l))
+      new in
       let size = length-append starts (s ∷ []) in
       let some = h.some in
       record {
@@ -67,6 +64,24 @@ module _ (n : ℕ) (rows : List ℤ) (starts : List ℕ) (h : Rows n rows starts
             omega (arith, a, b))
             (cases_lt j (length starts)))
             (cases_lt k (length starts));
+        step = λ k l. ⊎_elim
+            (λ (less : k + 1 < length starts).
+            let a = get_or_append_left starts (s ∷ []) 0 k (omega (arith, less)) in
+            let b = get_or_append_left starts (s ∷ []) 0 (k + 1) less in
+            ⊎_elim
+            (λ (e : beside starts (k + 1) ≡ beside starts k). inl (omega (arith, a, b, e)))
+            (λ (h : beside starts k + n ≤ beside starts (k + 1)). inr (omega (arith, a, b, h)))
+            (h.step k less))
+            (λ (last : length starts ≤ k + 1).
+            let e : length starts ≡ k + 1 = omega (arith, last, l, size) in
+            let a = get_or_append_left starts (s ∷ []) 0 k (omega (arith, e)) in
+            let b = get_or_push starts s 0 (k + 1) e in
+            let f = ap (beside starts) (let g : length starts - 1 ≡ k = omega (arith, e) in g) in
+            ⊎_elim
+            (λ (h : s ≡ beside starts (length starts - 1)). inl (omega (arith, a, b, f, h)))
+            (λ (h : beside starts (length starts - 1) + n ≤ s). inr (omega (arith, a, b, f, h)))
+            new)
+            (cases_lt (k + 1) (length starts));
         room = λ k l. ⊎_elim
             (λ (less : k < length starts). let a = get_or_append_left starts (s ∷ []) 0 k less in let r = h.room k less in omega (arith, a, r))
             (λ (last : length starts ≤ k).
@@ -89,7 +104,7 @@ module _ (n : ℕ) (rows : List ℤ) (starts : List ℕ) (h : Rows n rows starts
       let r = h.room (length starts - 1) (omega (arith, some)) in
       let e : length starts ≡ length starts - 1 + 1 = omega (arith, some) in
       let m = ap (λ k. n * k) e in
-      rows_more rows (length rows - n) (omega (arith, t)) (omega (arith, t, r, m)) (omega (arith, t))
+      rows_more rows (length rows - n) (inl (omega (arith, t))) (omega (arith, t, r, m)) (omega (arith, t))
 
   -- a new row
   pub rows_copied : (rows' : List ℤ) → length rows' ≡ length rows + n → Rows n rows' (starts ++ length rows ∷ [])
@@ -99,16 +114,7 @@ module _ (n : ℕ) (rows : List ℤ) (starts : List ℕ) (h : Rows n rows starts
       let r = h.room (length starts - 1) (omega (arith, some)) in
       let e : length starts ≡ length starts - 1 + 1 = omega (arith, some) in
       let m = ap (λ k. n * k) e in
-      rows_more rows' (length rows) (omega (arith, t)) (omega (arith, t, r, m)) (omega (arith, longer))
-
-  -- the new row is a copy
-  pub copied_row : (rows' : List ℤ) → rows' ≡ rows ++ drop (length rows - n) rows → drop (length rows' - n) rows' ≡ row n rows (beside starts (length starts - 1))
-  copied_row rows' e =
-      let last = drop (length rows - n) rows in
-      ap (λ (us : List ℤ). drop (length us - n) us) e
-      ∙ ap (λ k. drop k (rows ++ last)) (let a = length-append rows last in let b = length-drop (length rows - n) rows in let l = last_fits in let f : length (rows ++ last) - n ≡ length rows = omega (arith, a, b, l) in f)
-      ∙ drop_at rows last (length rows) refl
-      ∙ sym last_row
+      rows_more rows' (length rows) (inr (omega (arith, t))) (omega (arith, t, r, m)) (omega (arith, longer))
 
 -- rows that agree as far as a place have the same rows before it
 pub same_row : (n s m : ℕ) (rows rows' : List ℤ) → s + n ≤ m → take m rows ≡ take m rows' → row n rows s ≡ row n rows' s
@@ -116,3 +122,11 @@ same_row n s m rows rows' fits e =
     sym (drop-take s n rows)
     ∙ ap (drop s) (sym (take-take (s + n) m rows fits) ∙ ap (take (s + n)) e ∙ take-take (s + n) m rows' fits)
     ∙ drop-take s n rows'
+
+-- a row of the first list, behind those before it
+pub front_row : (s n : ℕ) (xs ys : List ℤ) → s + n ≤ length xs → take s xs ++ take n (drop s xs) ≡ take (s + n) (xs ++ ys)
+front_row s n xs ys fits =
+    ap (λ us. us ++ take n (drop s xs)) (sym (take-take s (s + n) xs (omega arith)))
+    ∙ ap (λ us. take s (take (s + n) xs) ++ us) (sym (drop-take s n xs))
+    ∙ take-append-drop s (take (s + n) xs)
+    ∙ sym (take-append-le (s + n) xs ys fits)

@@ -1,8 +1,8 @@
 -- What a store keeps: shorter lists keep their least values, and the whole list has its own or a cycle
-use Rattle.std.proofs.Common.{◌≡◌, ℕ, zero, suc, None, false, get_or, replicate, w64, to_z, of_z, ◌+◌, ◌-◌, ◌<◌, ◌≤◌, List, [], ◌∷◌, ◌++◌, length, take, drop, All, refl, sym, ◌∙◌, ap, subst, arith, ◌⊎◌, inl, inr, ⊎_elim, ℤ, pos}
+use Rattle.std.proofs.Common.{◌≡◌, ℕ, zero, suc, None, false, replicate, w64, to_z, of_z, ◌+◌, ◌-◌, ◌<◌, ◌≤◌, List, [], ◌∷◌, ◌++◌, length, take, All, refl, sym, ◌∙◌, ap, subst, arith, ◌⊎◌, inl, inr, ⊎_elim, ℤ, pos}
 use Rattle.std.proofs.lemmas.Int.{ints}
 use Rattle.std.proofs.lemmas.Bool.{cases_lt}
-use Rattle.std.proofs.lemmas.List.{get_or_append_left, get_or-take, get_or-drop, length-replicate, get_or_default, length_push, take-take, take_all}
+use Rattle.std.proofs.lemmas.List.{get_or_append_left, get_or-take, drop_at, length-append, length-replicate, get_or_default, length_push, take-take, take_all}
 use Rattle.std.proofs.lemmas.List.Elements.{All-push}
 use Rattle.tick_num.specs.declared.differences.Diff.{Diff}
 use Rattle.tick_num.specs.Differences.{diff, Meets, MeetsAll, LeastValues, NegativeCycle, InRange, listed}
@@ -15,7 +15,7 @@ use Rattle.diff_store.specs.Chains.{IsLatest, Chained, linked}
 use Rattle.diff_store.specs.Raising.{NoneWaits}
 use Rattle.diff_store.specs.Rows.{Rows, row, Solved}
 use Rattle.diff_store.specs.Standing.{Answered}
-use Rattle.diff_store.proofs.RowLemmas.{same_row, last_start}
+use Rattle.diff_store.proofs.RowLemmas.{same_row, last_row}
 use Rattle.diff_store.proofs.Bounded.{low_values}
 use Rattle.diff_store.proofs.Ticks.{tick_is}
 
@@ -67,12 +67,27 @@ solved_until n ds rows starts cycle h now k l = ⊎_elim
     (λ (ge : length ds ≤ k). subst (Solved n ds rows starts) (let e : length ds ≡ k = omega (arith, l, ge) in e) now)
     (cases_lt k (length ds))
 
+-- ---- the last row
+last_values : (n m : ℕ) (replaced values : List ℤ) (starts : List ℕ) → Rows n (replaced ++ values) starts → length values ≡ n → length starts ≡ m + 1 → row n (replaced ++ values) (beside starts m) ≡ values
+last_values n m replaced values starts r size starts_size =
+    let rows = replaced ++ values in
+    ap (λ k. row n rows (beside starts k)) (let e : m ≡ length starts - 1 = omega (arith, starts_size) in e)
+    ∙ last_row n rows starts r
+    ∙ drop_at replaced values (length rows - n) (let a = length-append replaced values in let e : length replaced ≡ length rows - n = omega (arith, a, size) in e)
+
+-- the values are the least ones, which is what the last row says
+pub solved_last : (n : ℕ) (ds : List Diff) (replaced values : List ℤ) (starts : List ℕ) → Rows n (replaced ++ values) starts → length values ≡ n → length starts ≡ length ds + 1 → LeastOfFirst (length ds) ds (listed values) → Solved n ds (replaced ++ values) starts (length ds)
+solved_last n ds replaced values starts r size starts_size h = subst (λ (vs : List ℤ). LeastOfFirst (length ds) ds (listed vs)) (sym (last_values n (length ds) replaced values starts r size starts_size)) h
+
+pub last_solved : (n : ℕ) (ds : List Diff) (replaced values : List ℤ) (starts : List ℕ) → Rows n (replaced ++ values) starts → length values ≡ n → length starts ≡ length ds + 1 → Solved n ds (replaced ++ values) starts (length ds) → LeastOfFirst (length ds) ds (listed values)
+last_solved n ds replaced values starts r size starts_size h = subst (λ (vs : List ℤ). LeastOfFirst (length ds) ds (listed vs)) (last_values n (length ds) replaced values starts r size starts_size) h
+
 -- ---- a push
-pub solved_older : (n m : ℕ) (ds ds' : List Diff) (d : Diff) (rows : List ℤ) (starts : List ℕ) → ds' ≡ ds ++ d ∷ [] → m ≡ n → Solved n ds rows starts (length ds) → Solved m ds' rows starts (length ds' - 1)
-solved_older n m ds ds' d rows starts e em h =
+pub least_of_older : (ds ds' : List Diff) (d : Diff) (values values' : List ℤ) → ds' ≡ ds ++ d ∷ [] → values' ≡ values → LeastOfFirst (length ds) ds (listed values) → LeastOfFirst (length ds' - 1) ds' (listed values')
+least_of_older ds ds' d values values' e ev h =
     let size : length ds ≡ length ds' - 1 = (let a = ap length e in let b = length_push ds d in omega (arith, a, b)) in
-    subst (λ j. Solved j ds' rows starts (length ds' - 1)) (sym em)
-    (subst (Solved n ds' rows starts) size (first_longer (length ds) ds ds' d _ e (omega arith) h))
+    subst (λ (vs : List ℤ). LeastOfFirst (length ds' - 1) ds' (listed vs)) (sym ev)
+    (subst (λ k. LeastOfFirst k ds' (listed values)) size (first_longer (length ds) ds ds' d (listed values) e (omega arith) h))
 
 pub pushed_before : (n : ℕ) (ds ds' : List Diff) (d : Diff) (rows rows' : List ℤ) (starts starts' cycle : List ℕ) → Rows n rows starts → length starts ≡ length ds + 1 → Answered n ds rows starts cycle → Solved n ds rows starts (length ds) →
     ds' ≡ ds ++ d ∷ [] → take (length rows) rows' ≡ rows → take (length ds') starts' ≡ starts → (k : ℕ) → k < length ds' → Solved n ds' rows' starts' k
@@ -101,12 +116,31 @@ popped n ds ds' rows rows' starts starts' cycle r size h some e shorter er es =
       now = inl (at_most (length ds') (omega (arith, shorter)));
     }
 
+-- the row of the shorter list is the last one, or one of the replaced
+pub popped_place : (n m : ℕ) (replaced values : List ℤ) (starts : List ℕ) → Rows n (replaced ++ values) starts → length values ≡ n → length starts ≡ m + 1 → 0 < m → (beside starts (m - 1) ≡ length replaced) ⊎ (beside starts (m - 1) + n ≤ length replaced)
+popped_place n m replaced values starts r size starts_size some =
+    let t = r.top in
+    let a = length-append replaced values in
+    let last : beside starts (m - 1 + 1) ≡ length replaced =
+    (let e = ap (beside starts) (let f : m - 1 + 1 ≡ length starts - 1 = omega (arith, starts_size, some) in f) in omega (arith, e, t, a, size)) in
+    ⊎_elim
+    (λ (e : beside starts (m - 1 + 1) ≡ beside starts (m - 1)). inl (omega (arith, e, last)))
+    (λ (l : beside starts (m - 1) + n ≤ beside starts (m - 1 + 1)). inr (omega (arith, l, last)))
+    (r.step (m - 1) (omega (arith, starts_size, some)))
+
 pub popped_rows : (n : ℕ) (rows rows' : List ℤ) (starts starts' : List ℕ) (m : ℕ) → Rows n rows starts → length starts ≡ m + 1 → 0 < m → length rows' ≡ beside starts (m - 1) + n → starts' ≡ take m starts → length starts' ≡ m → Rows n rows' starts'
 popped_rows n rows rows' starts starts' m r size some er es shorter =
     let same : (k : ℕ) → k < m → beside starts' k ≡ beside starts k = (λ k l. ap (λ ss. beside ss k) es ∙ get_or-take m starts k 0 l) in
     record {
       some = omega (arith, some, shorter);
       rise = λ j k le l. let a = same j (omega (arith, le, l, shorter)) in let b = same k (omega (arith, l, shorter)) in let h = r.rise j k le (omega (arith, l, shorter, size)) in omega (arith, a, b, h);
+      step = λ k l.
+          let a = same k (omega (arith, l, shorter)) in
+          let b = same (k + 1) (omega (arith, l, shorter)) in
+          ⊎_elim
+          (λ (e : beside starts (k + 1) ≡ beside starts k). inl (omega (arith, a, b, e)))
+          (λ (h : beside starts k + n ≤ beside starts (k + 1)). inr (omega (arith, a, b, h)))
+          (r.step k (omega (arith, l, shorter, size)));
       room = λ k l. let b = same k (omega (arith, l, shorter)) in let h = r.room k (omega (arith, l, shorter, size)) in omega (arith, b, h);
       top = let e = ap (beside starts') (let f : length starts' - 1 ≡ m - 1 = omega (arith, shorter) in f) in let b = same (m - 1) (omega (arith, some)) in omega (arith, e, b, er);
     }
@@ -129,20 +163,11 @@ pushed_answered n m ds ds' ds'' d rows rows' starts starts' cycle cycle' r size 
 }
 
 -- ---- what is shown
-module _ (n : ℕ) (ds : List Diff) (rows : List ℤ) (starts : List ℕ) (few : n ≤ 768) (range : InRange n ds) (small : All Small ds) (r : Rows n rows starts) (size : length starts ≡ length ds + 1) (h : Solved n ds rows starts (length ds))
-    (x : ℕ) (l : x < n) (t : ℤ) (is : t ≡ get_or rows (length rows - n + x) (pos 0)) where
+module _ (n : ℕ) (ds : List Diff) (values : List ℤ) (few : n ≤ 768) (range : InRange n ds) (small : All Small ds) (h : LeastOfFirst (length ds) ds (listed values)) (x : ℕ) (t : ℤ) (is : t ≡ listed values x) where
   pub least_at : (v : ℕ → ℤ) × LeastValues ds v × (to_z w64 (of_z w64 t) ≡ v x)
   least_at =
-      let vs = row n rows (beside starts (length ds)) in
-      let low = low_values n (length ds) ds vs few (omega arith) range small h x in
-      let start : beside starts (length ds) ≡ length rows - n =
-      ap (beside starts) (let e : length ds ≡ length starts - 1 = omega (arith, size) in e) ∙ last_start n rows starts r in
-      let here : listed vs x ≡ t =
-      get_or-take n (drop (beside starts (length ds)) rows) x (pos 0) l
-      ∙ get_or-drop (beside starts (length ds)) rows x (pos 0)
-      ∙ ap (λ k. get_or rows (k + x) (pos 0)) start
-      ∙ sym is in
-      (listed vs, least_values ds (listed vs) h, ap (λ u. to_z w64 (of_z w64 u)) (sym here) ∙ tick_is (listed vs x) (h.from_zero x) low)
+      let low = low_values n (length ds) ds values few (omega arith) range small h x in
+      (listed values, least_values ds (listed values) h, ap (λ u. to_z w64 (of_z w64 u)) is ∙ tick_is (listed values x) (h.from_zero x) low)
 
   pub least_is : (v : ℕ → ℤ) → LeastValues ds v → to_z w64 (of_z w64 t) ≡ v x
   least_is v least = let a = least_at in a.2 ∙ least_unique ds a.0 v a.1 least x
@@ -170,6 +195,7 @@ pub empty_rows : (n : ℕ) → Rows n (replicate n (pos 0)) (0 ∷ [])
 empty_rows n = record {
   some = omega arith;
   rise = λ j k le l. let a = ap (beside (0 ∷ [])) (let e : j ≡ k = omega (arith, le, l) in e) in omega (arith, a);
+  step = λ k l. absurd (omega (arith, l));
   room = λ k l. let a = ap (beside (0 ∷ [])) (let e : k ≡ 0 = omega (arith, l) in e) in omega (arith, a);
   top = let s = length-replicate n (pos 0) in omega (arith, s);
 }

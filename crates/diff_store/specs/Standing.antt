@@ -1,5 +1,5 @@
 -- What a store keeps of the constraints that were pushed
-use Rattle.std.specs.Prelude.{◌≡◌, ℕ, ◌+◌, ◌*◌, ◌<◌, ◌≤◌, ◌^◌, ◌⊎◌, List, length, drop, All, ℤ, vec_capacity}
+use Rattle.std.specs.Prelude.{◌≡◌, ℕ, ◌+◌, ◌*◌, ◌<◌, ◌≤◌, ◌^◌, ◌⊎◌, ◌++◌, List, length, drop, All, ℤ, vec_capacity}
 use Rattle.tick_num.specs.declared.differences.Diff.{Diff}
 use Rattle.tick_num.specs.Differences.{InRange, NegativeCycle}
 use Rattle.diff_store.specs.declared.store.Store.TheInside.{Inside}
@@ -21,9 +21,10 @@ pub record Standing (s : Inside) : Type 0 where
   pub range : InRange s.variables s.list.items
   pub small : All Small s.list.items
   pub chained : Chained s.variables s.list.items s.heads.items s.nexts.items
-  pub rows : Rows s.variables s.rows.items s.starts.items
+  pub rows : Rows s.variables (s.replaced.items ++ s.values.items) s.starts.items
   pub starts : length s.starts.items ≡ length s.list.items + 1
-  pub answered : Answered s.variables s.list.items s.rows.items s.starts.items (drop s.start s.cycle.items)
+  pub answered : Answered s.variables s.list.items (s.replaced.items ++ s.values.items) s.starts.items (drop s.start s.cycle.items)
+  pub values : length s.values.items ≡ s.variables
   pub causes : length s.causes.items ≡ s.variables
   pub cycle : length s.cycle.items ≡ s.variables
   pub start : s.start ≤ s.variables
@@ -32,4 +33,4 @@ pub record Standing (s : Inside) : Type 0 where
   pub list_room : s.constraints ≤ vec_capacity s.list
   pub nexts_room : s.constraints ≤ vec_capacity s.nexts
   pub starts_room : s.constraints < vec_capacity s.starts
-  pub rows_room : s.variables * (s.constraints + 1) ≤ vec_capacity s.rows
+  pub replaced_room : s.variables * s.constraints ≤ vec_capacity s.replaced

@@ -6,7 +6,7 @@ ghost use Rattle.diff_store.specs.Bounds.{Small};
 
 use crate::chains::{link, no_heads, unlink};
 use crate::cycles::close;
-use crate::rows::{answer, first_row, first_start};
+use crate::rows::{answer, first_start, put_back, zeros};
 use crate::worklist::Worklist;
 use std::alloc::{AllocError, Global};
 use std::marker::Model;
@@ -34,9 +34,11 @@ pub struct Store {
     heads: Vec<Option<u32>>,
     /// Beside each constraint the next older one from its `x`.
     nexts: Vec<Option<u32>>,
-    /// Values by variable, a row of them for each push that changed them, and a first row of 0.
-    rows: Vec<Time>,
-    /// Where the row of the first constraints of the list starts, for each number of them.
+    /// The value of each variable.
+    values: Vec<Time>,
+    /// The values of all variables before each push that changed some.
+    replaced: Vec<Time>,
+    /// For each number of constraints, where the values of that list start among the replaced ones.
     starts: Vec<usize>,
     /// The position of the constraint that last raised each variable.
     causes: Vec<u32>,
@@ -70,16 +72,15 @@ impl Store {
         ensures list { IfOk result (λ s. s.list ≡ []) }
     {
         let variables = n as usize;
-        let rows = first_row(alloc, variables, variables * (len + 1))?;
-        let starts = first_start(alloc, len + 1)?;
         Ok(Store {
             variables,
             constraints: len,
             list: Vec::with_capacity(alloc, len)?,
             heads: no_heads(alloc, variables)?,
             nexts: Vec::with_capacity(alloc, len)?,
-            rows,
-            starts,
+            values: zeros(alloc, variables)?,
+            replaced: Vec::with_capacity(alloc, variables * len)?,
+            starts: first_start(alloc, len + 1)?,
             causes: vec![in alloc; 0; variables]?,
             cycle: vec![in alloc; 0; variables]?,
             start: 0,
@@ -106,7 +107,8 @@ impl Store {
             &self.list,
             &self.heads,
             &self.nexts,
-            &mut self.rows,
+            &mut self.values,
+            &mut self.replaced,
             &mut self.starts,
             &mut self.causes,
             &mut self.worklist,
@@ -128,7 +130,7 @@ impl Store {
     {
         unlink(&mut self.list, &mut self.heads, &mut self.nexts);
         let last = self.list.len();
-        self.rows.truncate(self.starts[last] + self.variables);
+        put_back(&mut self.values, &mut self.replaced, self.starts[last]);
         self.starts.truncate(last + 1);
     }
 
@@ -139,8 +141,7 @@ impl Store {
         ensures least { (v : ℕ → ℤ) × LeastValues self.now.list v × (result ≡ v var) }
         ensures one { (v : ℕ → ℤ) → LeastValues self.now.list v → result ≡ v var }
     {
-        let start = self.rows.len() - self.variables;
-        self.rows[start + var as usize]
+        self.values[var as usize]
     }
 
     /// Positions in the list, where it has no solution: the constraints there go round, and their

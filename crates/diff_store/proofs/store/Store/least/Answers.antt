@@ -1,9 +1,8 @@
-use Rattle.std.proofs.Common.{◌≡◌, ◌-◌, ◌+◌, ◌<◌, ℕ, ℤ, pos, w64, to_z, of_z, get_or, length, drop, sym, ap, ◌∙◌, subst, arith}
+use Rattle.std.proofs.Common.{◌≡◌, ◌<◌, ◌++◌, ℕ, ℤ, pos, w64, to_z, of_z, drop, sym, ◌∙◌, subst, arith}
 use Rattle.std.proofs.lemmas.List.{get_or_default}
 use Rattle.tick_num.specs.Differences.{MeetsAll, LeastValues}
 use Rattle.diff_store.specs.Storing.{Storing}
-use Rattle.diff_store.proofs.RowLemmas.{last_fits}
-use Rattle.diff_store.proofs.Stores.{now_solved, least_at, least_is}
+use Rattle.diff_store.proofs.Stores.{now_solved, last_solved, least_at, least_is}
 use Rattle.diff_store.proofs.store.Store.least.Goals as goal
 
 pub returns-clause-least : goal.returns-clause-least
@@ -11,29 +10,19 @@ returns-clause-least c =
     let s = c.self.inside in
     let inv = c.self.invariant in
     let low : c.args.var < s.variables = subst (λ (st : Storing). c.args.var < st.variables) (sym c.self.view_is) c.requires.var in
-    let fits = last_fits s.variables s.rows.items s.starts.items inv.rows in
-    let size : c.len.result ≡ length s.rows.items = omega (arith, c.len.ensures) in
-    let place : length s.rows.items - s.variables + c.args.var < length s.rows.items = omega (arith, low, fits) in
+    let solved = now_solved s.variables s.list.items (s.replaced.items ++ s.values.items) s.starts.items (drop s.start s.cycle.items) inv.answered (subst (λ (st : Storing). (v : ℕ → ℤ) × MeetsAll v st.list) (sym c.self.view_is) c.requires.solvable) in
     subst (λ (st : Storing). (v : ℕ → ℤ) × LeastValues st.list v × (to_z w64 (of_z w64 c.index.result.now) ≡ v c.args.var)) c.self.view_is
-    (least_at s.variables s.list.items s.rows.items s.starts.items inv.few inv.range inv.small inv.rows inv.starts
-    (now_solved s.variables s.list.items s.rows.items s.starts.items (drop s.start s.cycle.items) inv.answered (subst (λ (st : Storing). (v : ℕ → ℤ) × MeetsAll v st.list) (sym c.self.view_is) c.requires.solvable))
-    c.args.var low c.index.result.now
-    (c.index.ensures
-    ∙ ap (λ k. get_or s.rows.items (k - s.variables + c.args.var) c.index.result.now) size
-    ∙ get_or_default s.rows.items (length s.rows.items - s.variables + c.args.var) c.index.result.now (pos 0) place))
+    (least_at s.variables s.list.items s.values.items inv.few inv.range inv.small
+    (last_solved s.variables s.list.items s.replaced.items s.values.items s.starts.items inv.rows inv.values inv.starts solved)
+    c.args.var c.index.result.now (c.index.ensures ∙ get_or_default s.values.items c.args.var c.index.result.now (pos 0) (omega (arith, low, inv.values))))
 
 pub returns-clause-one : goal.returns-clause-one
 returns-clause-one c v least =
     let s = c.self.inside in
     let inv = c.self.invariant in
     let low : c.args.var < s.variables = subst (λ (st : Storing). c.args.var < st.variables) (sym c.self.view_is) c.requires.var in
-    let fits = last_fits s.variables s.rows.items s.starts.items inv.rows in
-    let size : c.len.result ≡ length s.rows.items = omega (arith, c.len.ensures) in
-    let place : length s.rows.items - s.variables + c.args.var < length s.rows.items = omega (arith, low, fits) in
-    least_is s.variables s.list.items s.rows.items s.starts.items inv.few inv.range inv.small inv.rows inv.starts
-    (now_solved s.variables s.list.items s.rows.items s.starts.items (drop s.start s.cycle.items) inv.answered (subst (λ (st : Storing). (v : ℕ → ℤ) × MeetsAll v st.list) (sym c.self.view_is) c.requires.solvable))
-    c.args.var low c.index.result.now
-    (c.index.ensures
-    ∙ ap (λ k. get_or s.rows.items (k - s.variables + c.args.var) c.index.result.now) size
-    ∙ get_or_default s.rows.items (length s.rows.items - s.variables + c.args.var) c.index.result.now (pos 0) place)
+    let solved = now_solved s.variables s.list.items (s.replaced.items ++ s.values.items) s.starts.items (drop s.start s.cycle.items) inv.answered (subst (λ (st : Storing). (v : ℕ → ℤ) × MeetsAll v st.list) (sym c.self.view_is) c.requires.solvable) in
+    least_is s.variables s.list.items s.values.items inv.few inv.range inv.small
+    (last_solved s.variables s.list.items s.replaced.items s.values.items s.starts.items inv.rows inv.values inv.starts solved)
+    c.args.var c.index.result.now (c.index.ensures ∙ get_or_default s.values.items c.args.var c.index.result.now (pos 0) (omega (arith, low, inv.values)))
     v (subst (λ (st : Storing). LeastValues st.list v) (sym c.self.view_is) least)
