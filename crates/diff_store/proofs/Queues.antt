@@ -1,12 +1,12 @@
 -- A queue that has each waiting variable once: one more, one less, and that there is room
 use Rattle.std.proofs.Common.{◌≡◌, ◌≢◌, ℕ, zero, suc, ◌<◌, ◌≤◌, Bool, true, false, List, [], ◌∷◌, ◌++◌, length, set, sym, ◌∙◌, ap, subst, arith, ◌⊎◌, inl, inr, ⊎_elim}
 use Rattle.std.specs.List.{Contains}
-use Rattle.std.proofs.lemmas.Bool.{cases_eq, cases_lt, both_ways, false_from_ne_true}
+use Rattle.std.proofs.lemmas.Bool.{cases_eq, cases_lt, both_ways}
 use Rattle.std.proofs.lemmas.List.{length-append, get_or_append_left, get_or_push, get_or-set_same, get_or-set_other, get_or_past}
 use Rattle.std.proofs.lemmas.List.Elements.{Contains-push, Contains-append_left}
 use Rattle.tick_num.proofs.Pigeons.{two_alike}
 use Rattle.diff_store.specs.Causes.{beside}
-use Rattle.diff_store.specs.Raising.{waits_in, NoneWaits}
+use Rattle.diff_store.specs.Raising.{waits_in}
 use Rattle.diff_store.specs.Queued.{Queued}
 
 waits_low : (ws : List Bool) (x : ℕ) → waits_in ws x ≡ true → x < length ws
@@ -93,6 +93,3 @@ module _ (q : List ℕ) (ws : List Bool) (x : ℕ) (h : Queued (x ∷ q) ws) whe
         (cases_eq y x);
     once = λ i j less l e. h.once (suc i) (suc j) (omega (arith, less)) (omega (arith, l)) e;
   }
-
-pub queued_none : (ws : List Bool) → Queued [] ws → NoneWaits ws
-queued_none ws h x = false_from_ne_true (waits_in ws x) (λ w. let c = h.queued x w in let l = c.1 in omega (arith, l))

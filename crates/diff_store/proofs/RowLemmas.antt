@@ -1,26 +1,9 @@
 -- Rows of values: one more start, the last row, and rows that stay
-use Rattle.std.proofs.Common.{◌≡◌, ℕ, ◌+◌, ◌*◌, ◌-◌, ◌<◌, ◌≤◌, ◌↔◌, List, [], ◌∷◌, ◌++◌, length, take, drop, sym, ◌∙◌, ap, subst, arith, ◌⊎◌, inl, inr, ⊎_elim, ℤ}
+use Rattle.std.proofs.Common.{◌≡◌, ℕ, ◌+◌, ◌*◌, ◌-◌, ◌<◌, ◌≤◌, List, [], ◌∷◌, ◌++◌, length, take, drop, sym, ◌∙◌, ap, arith, ◌⊎◌, inl, inr, ⊎_elim, ℤ}
 use Rattle.std.proofs.lemmas.Bool.{cases_lt}
 use Rattle.std.proofs.lemmas.List.{length-append, get_or_append_left, get_or_push, take_rest, take-take, drop-take, take-append-drop, take-append-le}
-use Rattle.tick_num.specs.declared.differences.Diff.{Diff}
-use Rattle.tick_num.specs.Differences.{Meets}
-use Rattle.diff_store.specs.Leasts.{at, LeastOfFirst}
-use Rattle.diff_store.specs.Causes.{beside, newest}
+use Rattle.diff_store.specs.Causes.{beside}
 use Rattle.diff_store.specs.Rows.{Rows, row}
-
--- a constraint more that the values meet
-pub met_more : (ds : List Diff) (v : ℕ → ℤ) → 0 < length ds → LeastOfFirst (length ds - 1) ds v → Meets v (newest ds) ↔ LeastOfFirst (length ds) ds v
-met_more ds v some h = (
-  λ m. record {
-    solves = λ i l. ⊎_elim
-        (λ (older : i < length ds - 1). h.solves i older)
-        (λ (last : length ds - 1 ≤ i). subst (λ j. Meets v (at ds j)) (let e : length ds - 1 ≡ i = omega (arith, last, l) in e) m)
-        (cases_lt i (length ds - 1));
-    from_zero = h.from_zero;
-    least = λ w met z. h.least w (λ i l. met i (omega (arith, l))) z;
-  },
-  λ all. all.solves (length ds - 1) (omega (arith, some)),
-)
 
 module _ (n : ℕ) (rows : List ℤ) (starts : List ℕ) (h : Rows n rows starts) where
   pub last_start : beside starts (length starts - 1) ≡ length rows - n

@@ -1,5 +1,5 @@
 -- From the least values of the older constraints to those of the whole list, by raises along chains
-use Rattle.std.proofs.Common.{◌≡◌, ◌≢◌, ℕ, ◌+◌, ◌-◌, ◌<◌, ◌≤◌, Bool, true, false, List, length, set, Option, None, Some, refl, sym, ◌∙◌, ap, subst, arith, ◌⊎◌, inl, inr, ⊎_elim, ℤ}
+use Rattle.std.proofs.Common.{◌≡◌, ◌≢◌, ℕ, ◌+◌, ◌-◌, ◌<◌, ◌≤◌, Bool, true, false, List, length, set, Option, Some, refl, ◌∙◌, ap, subst, arith, ◌⊎◌, inl, inr, ⊎_elim, ℤ}
 use Rattle.std.proofs.lemmas.Int.{ints}
 use Rattle.std.proofs.lemmas.Bool.{cases_lt, cases_eq, both_ways}
 use Rattle.std.proofs.lemmas.List.{length-set, get_or-set_other}
@@ -155,9 +155,6 @@ module _ (ds : List Diff) (x i : ℕ) (vs : List ℤ) (cs : List ℕ) (ws : List
   pub along_within : i < length ds
   along_within = let b = a.bounded in let l = a.latest.within in omega (arith, b, l)
 
-  pub along_state : Raising ds vs cs ws (at ds i).x (i + 1)
-  along_state = subst (λ y. Raising ds vs cs ws y (i + 1)) (sym a.latest.same) a.state
-
   pub along_more : (n : ℕ) (heads nexts : List (Option ℕ)) (vs' : List ℤ) (cs' : List ℕ) (ws' : List Bool) → Chained n ds heads nexts → Raising ds vs' cs' ws' (at ds i).x i → left_to_do vs' ws' ≤ left_to_do vs ws → length ws' ≡ length ws → Along ds x (linked nexts i) vs' cs' ws' most size
   along_more n heads nexts vs' cs' ws' chained s less same =
       let latest = subst (λ y. IsLatest ds y i (linked nexts i)) a.latest.same (chained.next i along_within) in
@@ -169,13 +166,6 @@ module _ (ds : List Diff) (x i : ℕ) (vs : List ℤ) (cs : List ℕ) (ws : List
         falls = let f = a.falls in omega (arith, less, f);
         waits = same ∙ a.waits;
       }
-
-pub along_ends : (ds : List Diff) (x : ℕ) (vs : List ℤ) (cs : List ℕ) (ws : List Bool) (most size : ℕ) (link : Option ℕ) → link ≡ None → Along ds x link vs cs ws most size → Raising ds vs cs ws x 0
-along_ends ds x vs cs ws most size link e a = subst (λ (l : Option ℕ). Raising ds vs cs ws x (reach l)) e a.state
-
--- the next link is further back
-pub link_falls : (ds : List Diff) (x i : ℕ) (next : Option ℕ) → IsLatest ds x i next → reach next < i + 1
-link_falls ds x i next latest = let w = latest.within in omega (arith, w)
 
 -- ---- until none waits
 pub record Settling (ds : List Diff) (vs : List ℤ) (cs : List ℕ) (ws : List Bool) (size : ℕ) : Type 0 where

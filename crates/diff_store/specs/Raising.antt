@@ -22,6 +22,7 @@ pub record Raising (ds : List Diff) (vs : List ℤ) (causes : List ℕ) (waits :
   pub some : 0 < length ds
   pub causes_size : length causes ≡ length vs
   pub waits_size : length waits ≡ length vs
+  -- the least values of the older constraints
   pub base : ℕ → ℤ
   pub least : LeastOfFirst (length ds - 1) ds base
   pub low : Low base

@@ -63,7 +63,8 @@ impl Model for Store {
 
 impl Store {
     /// Takes room for up to `len` constraints, fewer than 2^32, on the variables 0 to `n - 1`, at
-    /// most 768 of them. The list is empty. No other call takes memory.
+    /// most 768 of them. The list is empty. No other call takes memory, and an error says that there
+    /// is none.
     pub fn reserve(alloc: Global, n: u32, len: usize) -> Result<Store, AllocError>
         requires few { n ≤ 768 }
         requires long { len < 4_294_967_296 }
@@ -89,7 +90,7 @@ impl Store {
     }
 
     /// Adds a constraint, with its bound within 10^13 of zero, to a list that has a solution, and
-    /// says whether it still has one. Only a `pop` may follow where it has none.
+    /// says whether it still has one. Where it has none, a `pop` comes before the next `push`.
     pub fn push(&mut self, d: Diff) -> Pushed
         requires room { length self.old.list < self.old.constraints }
         requires x { d.x < self.old.variables }
