@@ -2,6 +2,7 @@
 
 ghost use Rattle.std.specs.Prelude.{◌≡◌, ◌++◌, IfOk, OnOk};
 ghost use Rattle.ttw_text.specs.Numbers.{spelled};
+ghost use Rattle.sched_model.specs.PlainMode.{mode_at};
 ghost use Rattle.cert_checker.specs.Refusals as refusals;
 ghost use Rattle.mode_file.specs.declared.faults.FileFault.TheVariants.{Unknown};
 ghost use Rattle.ttw_program.specs.PlanFiles as plans;
