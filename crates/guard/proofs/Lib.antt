@@ -1,0 +1,5 @@
+pub mod ClockLemmas
+pub mod PartLemmas
+pub mod OverlapLemmas
+pub mod GuardLemmas
+pub mod WakingLemmas

@@ -1,0 +1,5 @@
+pub mod Clocks
+pub mod Parts
+pub mod Waking
+pub mod Bounds
+pub mod Guards
