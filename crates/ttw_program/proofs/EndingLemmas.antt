@@ -8,11 +8,12 @@ use Rattle.ttw_program.specs.declared.status.Status.{Status}
 use Rattle.ttw_program.specs.declared.status.Status.TheVariants.{Done, NoSchedule, Usage, ModeFile, Plan, Budget, ReadFault}
 use Rattle.ttw_program.specs.FaultLines.{read_fault_line}
 use Rattle.ttw_program.specs.Endings.{Counts, FlushedOnce, Ends, Finishes}
-use Rattle.ttw_program.specs.Commands.{Command, plan, check, tables, none}
+use Rattle.ttw_program.specs.Commands.{Command, plan, check, tables, guard, none}
 use Rattle.ttw_program.specs.Plans.{plan_status}
 use Rattle.ttw_program.specs.PlanFiles.{OfPlan, OfSchedules}
 use Rattle.ttw_program.specs.Checks.{CheckDue, IsVerdict}
 use Rattle.ttw_program.specs.Tables.{ImageDue, IsImage, OfNode, TablesDue}
+use Rattle.ttw_program.specs.Guards.{GuardDue}
 use Rattle.ttw_program.specs.Due.{OfCommand, OfSet, PlanDue}
 use Rattle.app_graph.specs.declared.mode_set.ModeSet.{ModeSet}
 use Rattle.sched_model.specs.declared.schedule.Schedule.{Schedule}
@@ -69,6 +70,7 @@ due_answered (check name other) told s t d =
     of_file (OfSet (λ set. OfFile (told other) (CheckDue set))) (of_set (λ set. OfFile (told other) (CheckDue set)) (λ set x y e. of_file (CheckDue set) (of_plan set (IsVerdict set) (λ plans x y d. answered x Done d.0 done)) (told other) x y e)) (told name) s t d
 due_answered (tables name other node) told s t d =
     of_file (OfSet (TablesDue (told other) node)) (of_set (TablesDue (told other) node) (λ set x y e. tables_answered (told other) node set (position (bytes_eq node) set.nodes) x y e)) (told name) s t d
+due_answered (guard name ppm) told s t d = of_file (OfSet (GuardDue ppm)) (of_set (GuardDue ppm) (λ set x y e. answered x Done e.2 done)) (told name) s t d
 due_answered none told s t d = answered s Usage d.0 usage
 
 adds : (Due : Status → List ℕ → Type 0) (counts : Counts) (old new : Option (List ℕ)) (s : Status) (t : List ℕ) → IsAnswered s → Due s t → FlushedOnce counts.sink → new ≡ append_known old t → Ends Due counts old new s

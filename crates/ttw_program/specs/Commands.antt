@@ -9,6 +9,7 @@ pub data Command : Type 0 where
   plan : List ℕ → ℕ → Command
   check : List ℕ → List ℕ → Command
   tables : List ℕ → List ℕ → List ℕ → Command
+  guard : List ℕ → ℕ → Command
   none : Command
 
 -- plans for a mode file within a budget from 1 to 100,000
@@ -16,9 +17,17 @@ abbrev pub plan_within : List ℕ → Option ℕ → Command
 plan_within file None = none
 plan_within file (Some budget) = if nat_le 1 budget && nat_le budget 100000 then plan file budget else none
 
+-- the guard of a mode file under a drift from 1 to 100,000 millionths
+abbrev pub guard_under : List ℕ → Option ℕ → Command
+guard_under file None = none
+guard_under file (Some ppm) = if nat_le 1 ppm && nat_le ppm 100000 then guard file ppm else none
+
 -- the command of three words
 abbrev pub of_three : List ℕ → List ℕ → List ℕ → Command
-of_three verb file last = if bytes_eq verb (codes "plan") then plan_within file (number_of last) else (if bytes_eq verb (codes "check") then check file last else none)
+of_three verb file last =
+    if bytes_eq verb (codes "plan") then plan_within file (number_of last)
+    else (if bytes_eq verb (codes "check") then check file last
+    else (if bytes_eq verb (codes "guard") then guard_under file (number_of last) else none))
 
 -- the command of four words: the node has a name's spelling
 abbrev pub of_four : List ℕ → List ℕ → List ℕ → List ℕ → Command

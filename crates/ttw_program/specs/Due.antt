@@ -14,7 +14,8 @@ use Rattle.ttw_program.specs.FaultLines.{usage_line, file_fault_line, budget_lin
 use Rattle.ttw_program.specs.Plans.{PlansAll, SpendsFirst, plan_status}
 use Rattle.ttw_program.specs.Checks.{CheckDue}
 use Rattle.ttw_program.specs.Tables.{TablesDue}
-use Rattle.ttw_program.specs.Commands.{Command, plan, check, tables, none, command}
+use Rattle.ttw_program.specs.Guards.{GuardDue}
+use Rattle.ttw_program.specs.Commands.{Command, plan, check, tables, guard, none, command}
 
 -- what a command makes due of the bytes of a mode file: a refusal, or what it makes due of the set that they say
 abbrev pub OfSet : (ModeSet → Status → List ℕ → Type 0) → List ℕ → Status → List ℕ → Type 0
@@ -36,6 +37,7 @@ abbrev pub OfCommand : Command → (List ℕ → Told) → Status → List ℕ �
 OfCommand (plan file budget) told = OfFile (told file) (OfSet (PlanDue budget))
 OfCommand (check file other) told = OfFile (told file) (OfSet (λ set. OfFile (told other) (CheckDue set)))
 OfCommand (tables file other node) told = OfFile (told file) (OfSet (TablesDue (told other) node))
+OfCommand (guard file ppm) told = OfFile (told file) (OfSet (GuardDue ppm))
 OfCommand none told = IsUsage
 
 -- what is due of the words, where this is told of files

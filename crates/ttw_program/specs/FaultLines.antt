@@ -9,7 +9,7 @@ use Rattle.mode_file.specs.declared.faults.FileFault.TheVariants.{TooLong, NotTo
 
 -- the words that are no command
 abbrev pub usage_line : List ℕ
-usage_line = codes "usage: plan FILE BUDGET, check FILE PLAN, tables FILE PLAN NODE, replay FILE PLAN SCRIPT, drill SEED\n"
+usage_line = codes "usage: plan FILE BUDGET, check FILE PLAN, tables FILE PLAN NODE, replay FILE PLAN SCRIPT, drill SEED, latency FILE BUDGET, guard FILE PPM\n"
 
 -- a file that was not read
 abbrev pub read_fault_line : List ℕ

@@ -7,4 +7,5 @@ pub mod ModeFiles
 pub mod PlanFiles
 pub mod Checks
 pub mod Tables
+pub mod Guards
 pub mod Due

@@ -19,7 +19,7 @@ use ttw_text::Out;
 
 /// The line of words that are no command.
 pub(crate) const USAGE: &str =
-    "usage: plan FILE BUDGET, check FILE PLAN, tables FILE PLAN NODE, replay FILE PLAN SCRIPT, drill SEED\n";
+    "usage: plan FILE BUDGET, check FILE PLAN, tables FILE PLAN NODE, replay FILE PLAN SCRIPT, drill SEED, latency FILE BUDGET, guard FILE PPM\n";
 
 /// The line of a file that was not read.
 pub(crate) const READ_FAULT: &str = "read fault\n";

@@ -5,6 +5,7 @@ mod answers;
 mod checking;
 mod ending;
 mod fault_lines;
+mod guarding;
 mod mode_files;
 mod plan_files;
 mod planning;

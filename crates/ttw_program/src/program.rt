@@ -4,13 +4,14 @@ ghost use Rattle.std.specs.Prelude.{◌≡◌, ◌≤◌, List, map, IfOk, IsErr
 ghost use Rattle.ttw_io.specs.Outside.{Rose, OfFile};
 ghost use Rattle.ttw_text.specs.Numbers.{number_of};
 ghost use Rattle.ttw_program.specs.Endings.{Ends};
-ghost use Rattle.ttw_program.specs.Commands.{command, of_four, of_three, plan_within};
+ghost use Rattle.ttw_program.specs.Commands.{command, guard_under, of_four, of_three, plan_within};
 ghost use Rattle.ttw_program.specs.Due.{Due, OfCommand, IsUsage};
 
 use crate::answers::{Answer, End};
 use crate::checking::answer_check;
 use crate::ending::finish;
 use crate::fault_lines::{READ_FAULT, USAGE};
+use crate::guarding::answer_guard;
 use crate::planning::answer_plan;
 use crate::status::Status;
 use crate::tables::answer_tables;
@@ -20,6 +21,9 @@ use ttw_text::{is_name, read_u64};
 
 /// The greatest budget of a search.
 const MOST_BUDGET: u64 = 100_000;
+
+/// The greatest drift of a clock, in millionths.
+const MOST_PPM: u64 = 100_000;
 
 /// The answer to words that are no command.
 fn usage(alloc: Global) -> Result<Answer, End>
@@ -52,6 +56,29 @@ fn plan_words<F: Files>(
     }
 }
 
+/// The answer to `guard FILE PPM`.
+fn guard_words<F: Files>(
+    alloc: Global,
+    file: &str,
+    ppm: &str,
+    files: &mut F,
+) -> Result<Answer, End>
+    ensures due { IfOk result (λ a. OfCommand (guard_under file.now (number_of ppm.now)) (F.contents files.old) a.status a.text) }
+    ensures read { IsErrOf result End.Read → Rose (F.faults files.old) (F.faults files.new) }
+    ensures counted { F.faults files.old ≤ F.faults files.new }
+{
+    match read_u64(ppm.as_bytes()) {
+        None => usage(alloc),
+        Some(ppm) => {
+            if ppm >= 1 && ppm <= MOST_PPM {
+                answer_guard(alloc, file, ppm as u32, files)
+            } else {
+                usage(alloc)
+            }
+        }
+    }
+}
+
 /// The answer to three words.
 fn three_words<F: Files>(
     alloc: Global,
@@ -69,6 +96,9 @@ fn three_words<F: Files>(
     }
     if verb == "check" {
         return answer_check(alloc, file, last, files);
+    }
+    if verb == "guard" {
+        return guard_words(alloc, file, last, files);
     }
     usage(alloc)
 }

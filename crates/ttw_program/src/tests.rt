@@ -98,7 +98,7 @@ fn usage_lines(rt: HostRuntime) -> Result<(), Fail> {
         assert!(rt; status == Status::Usage);
         assert_eq!(rt;
             text.as_slice(),
-            b"usage: plan FILE BUDGET, check FILE PLAN, tables FILE PLAN NODE, replay FILE PLAN SCRIPT, drill SEED\n".as_slice()
+            b"usage: plan FILE BUDGET, check FILE PLAN, tables FILE PLAN NODE, replay FILE PLAN SCRIPT, drill SEED, latency FILE BUDGET, guard FILE PPM\n".as_slice()
         );
     }
     Ok(())
@@ -465,5 +465,51 @@ fn refused_mode_files(rt: HostRuntime) -> Result<(), Fail> {
     assert!(rt; plans(alloc, senders.as_str(), "2", (Status::ModeFile, line))?);
     assert!(rt; plans(alloc, "", "2", (Status::ModeFile, "modes: missing slots\n"))?);
     assert!(rt; plans(alloc, "x = ", "2", (Status::ModeFile, "modes: not TOML\n"))?);
+    Ok(())
+}
+
+/// Whether `guard` of the mode file under a drift of so many millionths ends with this status and this text.
+fn guards(alloc: Global, file: &str, ppm: &str, wanted: (Status, &str)) -> Result<bool, Fail> {
+    let (status, text) = answer(alloc, &["guard", "blink.toml", ppm], file, &[], &[])?;
+    Ok(status == wanted.0 && text.as_slice() == wanted.1.as_bytes())
+}
+
+#[test]
+fn guard_rows(rt: HostRuntime) -> Result<(), Fail> {
+    let alloc = rt.alloc();
+    let slow = "part 6\nguard 1\nbreak 0 1\nwake 1\n";
+    assert!(rt; guards(alloc, LOOP, "100", (Status::Done, slow))?);
+    assert!(rt; guards(alloc, LOOP, "1", (Status::Done, slow))?);
+    let fast = "part 6\nguard 2\nbreak 1 2\nwake 37\n";
+    assert!(rt; guards(alloc, LOOP, "100000", (Status::Done, fast))?);
+    let long = BLINK.replace(alloc, "slots = 2", "slots = 4")?;
+    let long = long.as_str().replace(alloc, "round = 10", "round = 1000")?;
+    let long = long.as_str().replace(alloc, "gap = 40", "gap = 100000")?;
+    let long = long.as_str().replace(alloc, " = 100\n", " = 100000\n")?;
+    let next = "part 200\nguard 2\nbreak 4 0\nwake 400\n";
+    assert!(rt; guards(alloc, long.as_str(), "1000", (Status::Done, next))?);
+    let short = LOOP.replace(alloc, "round = 20", "round = 3")?;
+    let none = "part 1\nguard none\nwake 1\n";
+    assert!(rt; guards(alloc, short.as_str(), "100", (Status::Done, none))?);
+    Ok(())
+}
+
+#[test]
+fn guard_refusals(rt: HostRuntime) -> Result<(), Fail> {
+    let alloc = rt.alloc();
+    for ppm in ["0", "100001", "01", "", "1e3"] {
+        let (status, _text) = answer(alloc, &["guard", "blink.toml", ppm], LOOP, &[], &[])?;
+        assert!(rt; status == Status::Usage);
+    }
+    let broken = LOOP.replace(alloc, "gap = 100", "gap = 19")?;
+    let refused = (Status::ModeFile, "modes: out of range gap\n");
+    assert!(rt; guards(alloc, broken.as_str(), "100", refused)?);
+    let words = ["guard", "blink.toml", "100"];
+    let (status, text) = answer(alloc, &words, LOOP, &[1], &[])?;
+    assert!(rt; status == Status::ReadFault);
+    assert_eq!(rt; text.as_slice(), b"read fault\n".as_slice());
+    let (status, text) = answer(alloc, &words, LOOP, &[], &[2])?;
+    assert!(rt; status == Status::WriteFault);
+    assert_eq!(rt; text.as_slice(), b"part 6\ng".as_slice());
     Ok(())
 }
