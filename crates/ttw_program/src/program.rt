@@ -57,12 +57,7 @@ fn plan_words<F: Files>(
 }
 
 /// The answer to `guard FILE PPM`.
-fn guard_words<F: Files>(
-    alloc: Global,
-    file: &str,
-    ppm: &str,
-    files: &mut F,
-) -> Result<Answer, End>
+fn guard_words<F: Files>(alloc: Global, file: &str, ppm: &str, files: &mut F) -> Result<Answer, End>
     ensures due { IfOk result (λ a. OfCommand (guard_under file.now (number_of ppm.now)) (F.contents files.old) a.status a.text) }
     ensures read { IsErrOf result End.Read → Rose (F.faults files.old) (F.faults files.new) }
     ensures counted { F.faults files.old ≤ F.faults files.new }
