@@ -236,11 +236,11 @@ parts_rise f h (suc n) =
           (all_more (λ x. key x ≤ 3 * n + 2) (λ x. key x ≤ 3 * suc n) (f n) (λ x g. omega (arith, g)) k.2)),
     )
 
-cycle_rises : (nodes : ℕ) (p : Plan) → Rises (cycle nodes p)
+pub cycle_rises : (nodes : ℕ) (p : Plan) → Rises (cycle nodes p)
 unfolding cycle
 cycle_rises nodes p = (parts_rise (at_tick nodes p) (tick_rises nodes p) (hyper p.mode)).0
 
-rises_at : (xs : List Entry) (i j : ℕ) → Rises xs → i ≤ j → j < length xs → key (get_or xs i none) ≤ key (get_or xs j none)
+pub rises_at : (xs : List Entry) (i j : ℕ) → Rises xs → i ≤ j → j < length xs → key (get_or xs i none) ≤ key (get_or xs j none)
 rises_at [] i j h l b = absurd (omega arith)
 rises_at (x ∷ xs) zero zero h l b = omega arith
 rises_at (x ∷ xs) zero (suc j) h l b = all_at (λ y. key x ≤ key y) xs j none h.0 (omega arith)

@@ -76,7 +76,7 @@ later_beacon rounds s ms r c = record {
 }
 
 -- ---- what a step adds
-counts_at : (ps : List Plan) (md : ℕ) → rounds_in (round_counts (map (λ p. p.schedule) ps)) md ≡ length (get_or ps md no_plan).schedule.starts
+pub counts_at : (ps : List Plan) (md : ℕ) → rounds_in (round_counts (map (λ p. p.schedule) ps)) md ≡ length (get_or ps md no_plan).schedule.starts
 counts_at [] md = refl
 counts_at (p ∷ ps) zero = refl
 counts_at (p ∷ ps) (suc md) = counts_at ps md
@@ -106,17 +106,17 @@ quiet_calls y d p s lost ds u (task_starts a) e = of_start (placed s.hyper.openi
     of_start true = refl
     of_start false = refl
 
-quiet_more : (y : System) (ds : List Step) (n lo : ℕ) → ((i : ℕ) → lo ≤ i → i < n → BeaconAt y ds i ≡ false) → BeaconAt y ds n ≡ false → (i : ℕ) → lo ≤ i → i < suc n → BeaconAt y ds i ≡ false
+pub quiet_more : (y : System) (ds : List Step) (n lo : ℕ) → ((i : ℕ) → lo ≤ i → i < n → BeaconAt y ds i ≡ false) → BeaconAt y ds n ≡ false → (i : ℕ) → lo ≤ i → i < suc n → BeaconAt y ds i ≡ false
 quiet_more y ds n lo before here i a b =
     ⊎_elim (λ (l : i < n). before i a l) (λ (l : n ≤ i). subst (λ z. BeaconAt y ds z ≡ false) (let q : n ≡ i = omega (arith, l, b) in q) here) (cases_lt i n)
 
 -- the host is in the round of the last beacon, which was in the last hyperperiod; or that had no beacon yet, and the host is in no round
-abbrev Where : System → List Step → CallState → List Mark → Type 0
+abbrev pub Where : System → List Step → CallState → List Mark → Type 0
 Where y ds s ms =
     ((h : Seen y ds) × (j : ℕ) × Is y (last_spot ds).hyper.mode h.done.spot.index (natural (round_start (plan_at y (last_spot ds).hyper.mode).schedule j)) (beacon j) × (beacon_place y h.done h.done.out ≡ j) × Comes s ms (suc j) true)
     ⊎ (Unseen y ds × Comes s ms 1 false)
 
-abbrev After : System → List Step → List HostCall → List Mark → Type 0
+abbrev pub After : System → List Step → List HostCall → List Mark → Type 0
 After y ds calls ms = AllMay (schedule_counts y) calls × Where y ds (call_state (schedule_counts y) calls) ms
 
 -- the calls and the marks of a step by what they are
@@ -127,7 +127,7 @@ settle y ds calls calls' ms ms' a b w =
 -- ---- one more Advance
 module _ (y : System) (right : AllRight y) where
   -- the entry is a beacon
-  seen_now : (es : List PlainEvent) (rf : RequestsFit y es) (lost : ℕ) → opens_round (entry_at y (spot_next y (history y es))).action ≡ true → (g : Seen y (history y (advance lost ∷ es))) × (g.done ≡ step_of y (advance lost) (history y es))
+  pub seen_now : (es : List PlainEvent) (rf : RequestsFit y es) (lost : ℕ) → opens_round (entry_at y (spot_next y (history y es))).action ≡ true → (g : Seen y (history y (advance lost ∷ es))) × (g.done ≡ step_of y (advance lost) (history y es))
   seen_now es rf lost rings =
       let ds = history y es in
       let s = spot_next y ds in
@@ -137,7 +137,7 @@ module _ (y : System) (right : AllRight y) where
       (record { done = d; is_last = cond-true (is_beacon d.out) (Some d) (last_beacon ds) (is ∙ rings); stay = refl; turn = refl; mode = refl; begin = refl; past = omega arith; inside = index_now y right es rf lost; is_beacon = rings; quiet = λ i a b. absurd (omega (arith, a, b)) }, refl)
 
   -- it is none, in the same hyperperiod
-  seen_still : (es : List PlainEvent) (lost : ℕ) → Same y (history y es) (spot_next y (history y es)) → opens_round (entry_at y (spot_next y (history y es))).action ≡ false → (h : Seen y (history y es)) → (g : Seen y (history y (advance lost ∷ es))) × (g.done ≡ h.done)
+  pub seen_still : (es : List PlainEvent) (lost : ℕ) → Same y (history y es) (spot_next y (history y es)) → opens_round (entry_at y (spot_next y (history y es))).action ≡ false → (h : Seen y (history y es)) → (g : Seen y (history y (advance lost ∷ es))) × (g.done ≡ h.done)
   seen_still es lost m no_beacon h =
       let ds = history y es in
       let s = spot_next y ds in
@@ -160,31 +160,31 @@ module _ (y : System) (right : AllRight y) where
         refl,
       )
 
-  unseen_still : (es : List PlainEvent) (lost : ℕ) → Same y (history y es) (spot_next y (history y es)) → opens_round (entry_at y (spot_next y (history y es))).action ≡ false → Unseen y (history y es) → Unseen y (history y (advance lost ∷ es))
+  pub unseen_still : (es : List PlainEvent) (lost : ℕ) → Same y (history y es) (spot_next y (history y es)) → opens_round (entry_at y (spot_next y (history y es))).action ≡ false → Unseen y (history y es) → Unseen y (history y (advance lost ∷ es))
   unseen_still es lost m no_beacon h i b =
       let ds = history y es in
       let s = spot_next y ds in
       quiet_more y (step_of y (advance lost) ds ∷ ds) s.index 0 (λ i a b. ap (λ (z : ℕ). opens_round (get_or (entries y z) i none).action) m.alike.mode ∙ h i (omega (arith, b, m.index))) no_beacon i (omega arith) b
 
   -- it is none, and begins a hyperperiod
-  unseen_anew : (es : List PlainEvent) (lost : ℕ) → (spot_next y (history y es)).index ≡ 0 → opens_round (entry_at y (spot_next y (history y es))).action ≡ false → Unseen y (history y (advance lost ∷ es))
+  pub unseen_anew : (es : List PlainEvent) (lost : ℕ) → (spot_next y (history y es)).index ≡ 0 → opens_round (entry_at y (spot_next y (history y es))).action ≡ false → Unseen y (history y (advance lost ∷ es))
   unseen_anew es lost begin no_beacon i b =
       let ds = history y es in
       let s = spot_next y ds in
       quiet_more y (step_of y (advance lost) ds ∷ ds) s.index 0 (λ i a b. absurd (omega (arith, b, begin))) no_beacon i (omega arith) b
 
   -- whether the entry is the first beacon does not depend on what the timeline sees of it
-  first_value : (es : List PlainEvent) → is_first_beacon (entry_at y (arrival y (history y es))).action ≡ is_first_beacon (entry_at y (spot_next y (history y es))).action
+  pub first_value : (es : List PlainEvent) → is_first_beacon (entry_at y (arrival y (history y es))).action ≡ is_first_beacon (entry_at y (spot_next y (history y es))).action
   first_value es =
       let ds = history y es in
       let s = spot_next y ds in
       ap (λ (z : ℕ). is_first_beacon (get_or (entries y z) s.index none).action) (sym (arrival_mode y ds (is_first_beacon (entry_at y (arrival y ds)).action) (turns y ds)))
 
-  count_now : (es : List PlainEvent) → rounds_in (schedule_counts y) (timeline_of (marks_of (history y es))).last.mode ≡ length (plan_at y (last_spot (history y es)).hyper.mode).schedule.starts
+  pub count_now : (es : List PlainEvent) → rounds_in (schedule_counts y) (timeline_of (marks_of (history y es))).last.mode ≡ length (plan_at y (last_spot (history y es)).hyper.mode).schedule.starts
   count_now es = counts_at y.plans (timeline_of (marks_of (history y es))).last.mode ∙ ap (λ z. length (plan_at y z).schedule.starts) (stands y es).alike.mode
 
   -- where no entry of the hyperperiod is left, the host is in the last round
-  over_is_last : (es : List PlainEvent) (rf : RequestsFit y es) (s : CallState) → length (entries y (last_spot (history y es)).hyper.mode) ≤ next_place (history y es) → Where y (history y es) s (marks_of (history y es)) →
+  pub over_is_last : (es : List PlainEvent) (rf : RequestsFit y es) (s : CallState) → length (entries y (last_spot (history y es)).hyper.mode) ≤ next_place (history y es) → Where y (history y es) s (marks_of (history y es)) →
       (r : ℕ) × (r ≡ rounds_in (schedule_counts y) (timeline_of (marks_of (history y es))).last.mode) × Comes s (marks_of (history y es)) r true
   over_is_last es rf s over at =
       let md = (last_spot (history y es)).hyper.mode in
@@ -203,10 +203,10 @@ module _ (y : System) (right : AllRight y) where
       beacon_place_of md j ok l = Rattle.runtime_model.proofs.Beacons.beacon_place y md ok j l
 
   -- the beacon of the round at place j, just heard or missed
-  abbrev SeenAt : List Step → ℕ → Type 0
+  abbrev pub SeenAt : List Step → ℕ → Type 0
   SeenAt ds j = (h : Seen y ds) × Is y (last_spot ds).hyper.mode h.done.spot.index (natural (round_start (plan_at y (last_spot ds).hyper.mode).schedule j)) (beacon j) × (beacon_place y h.done h.done.out ≡ j)
 
-  seen_at : (es : List PlainEvent) (rf : RequestsFit y es) (lost j : ℕ) → (entry_at y (spot_next y (history y es))).action ≡ beacon j → SeenAt (history y (advance lost ∷ es)) j
+  pub seen_at : (es : List PlainEvent) (rf : RequestsFit y es) (lost j : ℕ) → (entry_at y (spot_next y (history y es))).action ≡ beacon j → SeenAt (history y (advance lost ∷ es)) j
   seen_at es rf lost j act =
       let ds = history y es in
       let s = spot_next y ds in
@@ -223,7 +223,7 @@ module _ (y : System) (right : AllRight y) where
       minus : (n j : ℕ) → n + j - n ≡ j
       minus n j = omega arith
 
-  still_at : (es : List PlainEvent) (lost j : ℕ) → Same y (history y es) (spot_next y (history y es)) → opens_round (entry_at y (spot_next y (history y es))).action ≡ false → SeenAt (history y es) j → SeenAt (history y (advance lost ∷ es)) j
+  pub still_at : (es : List PlainEvent) (lost j : ℕ) → Same y (history y es) (spot_next y (history y es)) → opens_round (entry_at y (spot_next y (history y es))).action ≡ false → SeenAt (history y es) j → SeenAt (history y (advance lost ∷ es)) j
   still_at es lost j m no_beacon h =
       let g = seen_still es lost m no_beacon h.0 in
       let is = subst (λ (z : ℕ). Is y z h.0.done.spot.index (natural (round_start (plan_at y z).schedule j)) (beacon j)) (sym m.alike.mode) h.1 in (
@@ -383,7 +383,7 @@ module _ (y : System) (right : AllRight y) where
           (cases_lt k j)
 
   -- ---- every list of events
-  after : (es : List PlainEvent) → RequestsFit y es → After y (history y es) (calls_of y (history y es)) (marks_of (history y es))
+  pub after : (es : List PlainEvent) → RequestsFit y es → After y (history y es) (calls_of y (history y es)) (marks_of (history y es))
   after [] f = (tt, inr ((λ i l. absurd (omega (arith, l))), record { marks = refl; round = refl; inside = refl }))
   after (request m ∷ es) f =
       let w = after es f.1 in
