@@ -19,7 +19,7 @@ use Rattle.runtime_model.proofs.OutRegisters.{Is}
 
 -- ---- the hyperperiod of the last event has begun exactly where the host is in a round
 
-request_begun : (h : Hyperperiod) (m : ℕ) → (request_in h m).begun ≡ h.begun
+pub request_begun : (h : Hyperperiod) (m : ℕ) → (request_in h m).begun ≡ h.begun
 request_begun h m = by_test h.begun
   where
     by_test : (b : Bool) → (cond b (record h { late = m ∷ h.late }) (record h { early = m ∷ h.early })).begun ≡ h.begun

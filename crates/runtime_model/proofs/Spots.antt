@@ -105,7 +105,7 @@ abbrev pub Moves : System → List Step → Spot → Type 0
 Moves y ds s = Same y ds s ⊎ (Within y ds s ⊎ Opens y ds s)
 
 -- the next spot, by whether the Advance is a first beacon and whether it turns
-abbrev spot_with : System → List Step → Bool → Bool → Spot
+abbrev pub spot_with : System → List Step → Bool → Bool → Spot
 spot_with y ds b c =
     let s = last_spot ds in
     with_hyper (cond c (turned y s (ended ∷ marks_of ds)) (record { hyper = (timeline_of (marks_of ds)).last; stay = s.stay; turn = s.turn; begin = s.begin; index = next_place ds }))
