@@ -17,7 +17,7 @@ use Rattle.runtime_model.specs.System.{System, plan_at, no_plan}
 use Rattle.runtime_model.specs.Packets.{packet}
 use Rattle.runtime_model.specs.History.{history, step_of, spot_next, entries, entry_at, last_spot, next_place, marks_of, turns, arrival, is_first_beacon, performed, finished_or_not, sent_or_not, start_or_not}
 use Rattle.runtime_model.specs.Script.{opens_round}
-use Rattle.runtime_model.specs.World.{schedule_counts, has_ended, own_calls, calls_of, beacon_place}
+use Rattle.runtime_model.specs.HostOfEvents.{schedule_counts, has_ended, own_calls, calls_of, beacon_place}
 use Rattle.runtime_model.specs.Laws.{RequestsFit, HostsFollowEvents}
 use Rattle.runtime_model.proofs.Cycles.{none, entry_right, RightAt}
 use Rattle.runtime_model.proofs.Once.{beacon_once}

@@ -14,7 +14,7 @@ use Rattle.runtime_model.specs.Outcomes.{PlainEvent, advance, request, restart, 
 use Rattle.runtime_model.specs.Placement.{placed, own_start, run_at, ends_run, ending_run_at}
 use Rattle.runtime_model.specs.Plans.{Plan, offset, node_of}
 use Rattle.runtime_model.specs.Registers.{last_end}
-use Rattle.runtime_model.specs.System.{System, plan_at, body_at, state}
+use Rattle.runtime_model.specs.System.{System, plan_at}
 use Rattle.runtime_model.specs.Timeline.{drains}
 use Rattle.sched_model.proofs.Hyperperiods.{hyper_some}
 use Rattle.runtime_model.proofs.Instances.{same_class, more_turns}
@@ -292,7 +292,7 @@ module _ (y : System) (md a : ℕ) (fit : TaskFits y.nodes (plan_at y md) a) (so
       let number = (task_at p.mode a).number in
       let k' = run_at p s.turn u a in
       let ins = inputs p s.stay a k' ds in
-      let ans = (body_at y (y.body_of number)).answer (state y (y.body_of number) ds) number ins in
+      let ans = y.answers ds number ins in
       let says = ap (begun_run a k) out' ∙ cond-true (nat_eq a a && nat_eq k' k) (Some ans) None (both_true (nat_eq a a) (nat_eq k' k) (eq-eqb a a refl) (eq-eqb k' k (run_is y md a fit s.turn u k t'))) in
       (ans, found_now (runs v (d ∷ ds) && nat_eq s.stay st) (begun_run a k d.out) (recall v st (begun_run a k) ds) ans c.0 says))
       (λ (before : BeforeSpot s n i).

@@ -12,7 +12,7 @@ use Rattle.runtime_model.specs.System.{System, plan_at}
 use Rattle.runtime_model.specs.Packets.{held}
 use Rattle.runtime_model.specs.History.{history, outcome_of, step_of, spot_next, entry_at, last_spot, marks_of, moment}
 use Rattle.runtime_model.specs.NodeKinds.{kind, kind_by}
-use Rattle.runtime_model.specs.World.{schedule_counts, calls_of, beacon_place}
+use Rattle.runtime_model.specs.HostOfEvents.{schedule_counts, calls_of, beacon_place}
 use Rattle.runtime_model.specs.Registers.{registers, in_register, values_of, running}
 
 -- a host that stands for a list of calls stands, after a further call whose condition holds, for the list with that call
