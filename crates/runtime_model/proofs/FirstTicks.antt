@@ -10,9 +10,8 @@ use Rattle.runtime_model.specs.Entries.{Entry, Action, task_ends, beacon, slot, 
 use Rattle.runtime_model.specs.Plans.{RightPlan}
 use Rattle.runtime_model.specs.Outcomes.{PlainEvent, advance, request, restart, Step}
 use Rattle.runtime_model.specs.System.{System, plan_at}
-use Rattle.runtime_model.specs.History.{history, step_of, last_spot, next_place, spot_next, entries, entry_at, moment}
+use Rattle.runtime_model.specs.History.{history, step_of, last_spot, next_place, spot_next, entries, entry_at, moment, now_after}
 use Rattle.runtime_model.specs.Script.{opens_round}
-use Rattle.runtime_model.specs.World.{now_after}
 use Rattle.runtime_model.specs.Laws.{RequestsFit}
 use Rattle.runtime_model.proofs.Cycles.{none, entry_right, cycle_rises, rises_at, rank, key}
 use Rattle.runtime_model.proofs.Spots.{Same, Within, Opens, moves, stands}

@@ -9,7 +9,7 @@ use Rattle.runtime_model.specs.Plans.{Plan, round_counts, first_round, first_rou
 use Rattle.runtime_model.specs.Outcomes.{PlainEvent, advance, request, restart, Step}
 use Rattle.runtime_model.specs.System.{System, plan_at}
 use Rattle.runtime_model.specs.History.{history, last_spot, marks_of}
-use Rattle.runtime_model.specs.World.{schedule_counts, calls_of, beacon_place}
+use Rattle.runtime_model.specs.HostOfEvents.{schedule_counts, calls_of, beacon_place}
 use Rattle.runtime_model.specs.Laws.{PlansAreRight, RequestsFit}
 use Rattle.runtime_model.proofs.Beacons.{Seen, Unseen}
 use Rattle.runtime_model.proofs.Hosts.{fits, inside_fits, outside_fits}
