@@ -299,6 +299,34 @@ module _ (y : System) (right : AllRight y) where
       apart : (n j i : ℕ) → j ≡ suc i → nat_eq (n + j) n ≡ false
       apart n j i e = grind (arith, e)
 
+  -- each round's beacon stands in the cycle
+  pub beacon_place_in : (md j : ℕ) → Rattle.runtime_model.specs.Plans.RightPlan y.nodes (plan_at y md) → j < length (plan_at y md).schedule.starts → (i : ℕ) × Is y md i (natural (round_start (plan_at y md).schedule j)) (beacon j)
+  beacon_place_in md j ok l = Rattle.runtime_model.proofs.Beacons.beacon_place y md ok j l
+
+  -- the next beacon of a hyperperiod is that of the next round
+  pub follows_seen : (es : List PlainEvent) (rf : RequestsFit y es) → Rattle.runtime_model.specs.Plans.RightPlan y.nodes (plan_at y (last_spot (history y es)).hyper.mode) → (h : Seen y (history y es)) (k : ℕ) →
+      Is y (last_spot (history y es)).hyper.mode h.done.spot.index (natural (round_start (plan_at y (last_spot (history y es)).hyper.mode).schedule k)) (beacon k) →
+      (i t j : ℕ) → Is y (last_spot (history y es)).hyper.mode i t (beacon j) → i ≡ next_place (history y es) → suc k ≡ j
+  follows_seen es rf ok h k at i t j is now =
+      let md = (last_spot (history y es)).hyper.mode in
+      let p = plan_at y md in
+      let here = (subst (λ (x : Entry). RightAt p x.tick x.action) is.1 (entry_right y.nodes p i is.0).1) in
+      ⊎_elim
+      (λ (less : k < j).
+      let before = beacon_place_in md (j - 1) ok (omega (arith, here.0)) in
+      let sooner = beacon_order y md ok before.0 (j - 1) i j (natural (round_start p.schedule (j - 1))) t before.1 is (omega (arith, less)) in
+      let low = not_lower y right es rf h k (j - 1) before.0 at before.1 (omega (arith, sooner, now)) in
+      omega (arith, less, low))
+      (λ (le : j ≤ k). ⊎_elim
+      (λ (less : j < k). absurd (omega (arith, beacon_order y md ok i j h.done.spot.index k t (natural (round_start p.schedule k)) is at less, h.past, now)))
+      (λ (ge : k ≤ j).
+      let same : k ≡ j = omega (arith, le, ge) in
+      let at' = subst (λ z. Is y md h.done.spot.index (natural (round_start p.schedule z)) (beacon z)) same at in
+      let is' = subst (λ z. Is y md i z (beacon j)) (sym here.1) is in
+      absurd (omega (arith, beacon_once y.nodes p (natural (round_start p.schedule j)) j h.done.spot.index i at'.0 is'.0 at'.1 is'.1, h.past, now)))
+      (cases_lt j k))
+      (cases_lt k j)
+
   -- an entry that is a beacon
   beacon_step : (es : List PlainEvent) (rf : RequestsFit y es) (lost j : ℕ) → (entry_at y (spot_next y (history y es))).action ≡ beacon j → After y (history y es) (calls_of y (history y es)) (marks_of (history y es)) →
       After y (history y (advance lost ∷ es)) (calls_of y (history y (advance lost ∷ es))) (marks_of (history y (advance lost ∷ es)))
@@ -349,38 +377,11 @@ module _ (y : System) (right : AllRight y) where
       (λ r. ⊎_elim (λ (m : Within y ds s). turn m.over m.index) (λ (m : Opens y ds s). turn m.over m.index) r)
       (moves y ds (stands y es))
     where
-      beacon_place_in : (md j : ℕ) → Rattle.runtime_model.specs.Plans.RightPlan y.nodes (plan_at y md) → j < length (plan_at y md).schedule.starts → (i : ℕ) × Is y md i (natural (round_start (plan_at y md).schedule j)) (beacon j)
-      beacon_place_in md j ok l = Rattle.runtime_model.proofs.Beacons.beacon_place y md ok j l
-
       not_after : (a b j : ℕ) → (0 < j → a < b) → b ≤ 0 → j ≡ 0
       not_after a b j f l = ⊎_elim (λ (later : 0 < j). absurd (omega (arith, f later, l))) (λ (z : j ≤ 0). omega (arith, z)) (cases_lt 0 j)
 
       not_later : (j : ℕ) → (0 < j → ⊥) → j ≡ 0
       not_later j f = ⊎_elim (λ (later : 0 < j). absurd (f later)) (λ (z : j ≤ 0). omega (arith, z)) (cases_lt 0 j)
-
-      -- the next beacon of a hyperperiod is that of the next round
-      follows_seen : (es : List PlainEvent) (rf : RequestsFit y es) → Rattle.runtime_model.specs.Plans.RightPlan y.nodes (plan_at y (last_spot (history y es)).hyper.mode) → (h : Seen y (history y es)) (k : ℕ) →
-          Is y (last_spot (history y es)).hyper.mode h.done.spot.index (natural (round_start (plan_at y (last_spot (history y es)).hyper.mode).schedule k)) (beacon k) →
-          (i t j : ℕ) → Is y (last_spot (history y es)).hyper.mode i t (beacon j) → i ≡ next_place (history y es) → suc k ≡ j
-      follows_seen es rf ok h k at i t j is now =
-          let md = (last_spot (history y es)).hyper.mode in
-          let p = plan_at y md in
-          let here = (subst (λ (x : Entry). RightAt p x.tick x.action) is.1 (entry_right y.nodes p i is.0).1) in
-          ⊎_elim
-          (λ (less : k < j).
-          let before = beacon_place_in md (j - 1) ok (omega (arith, here.0)) in
-          let sooner = beacon_order y md ok before.0 (j - 1) i j (natural (round_start p.schedule (j - 1))) t before.1 is (omega (arith, less)) in
-          let low = not_lower y right es rf h k (j - 1) before.0 at before.1 (omega (arith, sooner, now)) in
-          omega (arith, less, low))
-          (λ (le : j ≤ k). ⊎_elim
-          (λ (less : j < k). absurd (omega (arith, beacon_order y md ok i j h.done.spot.index k t (natural (round_start p.schedule k)) is at less, h.past, now)))
-          (λ (ge : k ≤ j).
-          let same : k ≡ j = omega (arith, le, ge) in
-          let at' = subst (λ z. Is y md h.done.spot.index (natural (round_start p.schedule z)) (beacon z)) same at in
-          let is' = subst (λ z. Is y md i z (beacon j)) (sym here.1) is in
-          absurd (omega (arith, beacon_once y.nodes p (natural (round_start p.schedule j)) j h.done.spot.index i at'.0 is'.0 at'.1 is'.1, h.past, now)))
-          (cases_lt j k))
-          (cases_lt k j)
 
   -- ---- every list of events
   pub after : (es : List PlainEvent) → RequestsFit y es → After y (history y es) (calls_of y (history y es)) (marks_of (history y es))
