@@ -64,6 +64,21 @@ module _ (y : System) (md : ℕ) (ok : RightPlan y.nodes (plan_at y md)) where
   pub tick_inside : (i : ℕ) → i < length (entries y md) → (get_or (entries y md) i none).tick < H y md
   tick_inside i l = (entry_right y.nodes (plan_at y md) i l).0
 
+-- ---- the next entry against the last one
+
+-- the next Advance stands in the hyperperiod of the last event, at no lower tick
+pub record Stays (y : System) (ds : List Step) : Type 0 where
+  pub same : Same y ds (spot_next y ds)
+  pub later : (entry_at y (last_spot ds)).tick ≤ (entry_at y (spot_next y ds)).tick
+  pub inside : (entry_at y (spot_next y ds)).tick < H y (last_spot ds).hyper.mode
+
+-- it stands at the first entry of the next hyperperiod: every entry of the old one is past, and so is its length, that of the old mode
+pub record Turns (y : System) (ds : List Step) : Type 0 where
+  pub over : length (entries y (last_spot ds).hyper.mode) ≤ next_place ds
+  pub index : (spot_next y ds).index ≡ 0
+  pub begin : (spot_next y ds).begin ≡ (last_spot ds).begin + H y (last_spot ds).hyper.mode
+  pub tick : (entry_at y (spot_next y ds)).tick ≡ 0
+
 -- ---- every list of events
 module _ (y : System) (right : AllRight y) where
   -- the last event stands at an entry of its cycle, and the next entry is that one, before the first Advance, or comes after it
@@ -88,26 +103,14 @@ module _ (y : System) (right : AllRight y) where
       let t = first_ticks y (last_spot ds).hyper.mode (right es f) (last_spot ds).index l.0 (λ k b. u k (omega (arith, b, l.1))) in
       omega (arith, now_is es f, t)
 
-  -- the next Advance stands in the hyperperiod of the last event, at no lower tick
-  pub record Stays (ds : List Step) : Type 0 where
-    pub same : Same y ds (spot_next y ds)
-    pub later : (entry_at y (last_spot ds)).tick ≤ (entry_at y (spot_next y ds)).tick
-    pub inside : (entry_at y (spot_next y ds)).tick < H y (last_spot ds).hyper.mode
-
-  -- it stands at the first entry of the next hyperperiod: every entry of the old one is past, and so is its length, that of the old mode
-  pub record Turns (ds : List Step) : Type 0 where
-    pub over : length (entries y (last_spot ds).hyper.mode) ≤ next_place ds
-    pub index : (spot_next y ds).index ≡ 0
-    pub begin : (spot_next y ds).begin ≡ (last_spot ds).begin + H y (last_spot ds).hyper.mode
-    pub tick : (entry_at y (spot_next y ds)).tick ≡ 0
-
-  pub onward : (es : List PlainEvent) → RequestsFit y es → Stays (history y es) ⊎ Turns (history y es)
+  -- the next entry is in the hyperperiod of the last event, or the first one of the next
+  pub onward : (es : List PlainEvent) → RequestsFit y es → Stays y (history y es) ⊎ Turns y (history y es)
   onward es f =
       let ds = history y es in
       let s = spot_next y ds in
       let ok = right (advance 0 ∷ es) f in
       let turn = λ (over : length (entries y (last_spot ds).hyper.mode) ≤ next_place ds) (index : s.index ≡ 0) (begin : s.begin ≡ (last_spot ds).begin + H y (last_spot ds).hyper.mode).
-      let t : Turns ds = record { over = over; index = index; begin = begin; tick = ap (λ i. (get_or (entries y s.hyper.mode) i none).tick) index ∙ first_tick y s.hyper.mode ok } in t in
+      let t : Turns y ds = record { over = over; index = index; begin = begin; tick = ap (λ i. (get_or (entries y s.hyper.mode) i none).tick) index ∙ first_tick y s.hyper.mode ok } in t in
       ⊎_elim
       (λ (m : Same y ds s).
       let l = last_index es f in
@@ -135,6 +138,6 @@ module _ (y : System) (right : AllRight y) where
       let n = now_is es f in
       let i = now_inside es f in
       ⊎_elim
-      (λ (t : Stays ds). (omega (arith, n, t.later, t.same.begin), omega (arith, i.0, t.inside, t.same.begin)))
-      (λ (t : Turns ds). (omega (arith, i.1, t.begin), omega (arith, i.0, t.begin, t.tick)))
+      (λ (t : Stays y ds). (omega (arith, n, t.later, t.same.begin), omega (arith, i.0, t.inside, t.same.begin)))
+      (λ (t : Turns y ds). (omega (arith, i.1, t.begin), omega (arith, i.0, t.begin, t.tick)))
       (onward es f)
