@@ -5,6 +5,7 @@ use Rattle.std.proofs.lemmas.Bool.{cases_lt, cases_Bool, cond-true, cond-false}
 use Rattle.sched_model.specs.Numbers.{natural}
 use Rattle.sched_model.specs.Rounds.{round_start}
 use Rattle.runtime_model.specs.Entries.{Entry, Action, beacon}
+use Rattle.runtime_model.specs.Plans.{RightPlan}
 use Rattle.runtime_model.specs.Outcomes.{PlainEvent, advance, request, restart, Step, is_beacon}
 use Rattle.runtime_model.specs.LookingBack.{last_beacon}
 use Rattle.runtime_model.specs.System.{System, plan_at}
@@ -28,12 +29,13 @@ rounds_of y md = length (plan_at y md).schedule.starts
 abbrev pub round_tick : System → ℕ → ℕ → ℕ
 round_tick y md j = natural (round_start (plan_at y md).schedule j)
 
--- the step is the beacon of the round at place j
+-- the step is the beacon of the round at place j of a mode with a right plan
 pub record BeaconStep (y : System) (d : Step) (j : ℕ) : Type 0 where
   pub is : Is y d.spot.hyper.mode d.spot.index (round_tick y d.spot.hyper.mode j) (beacon j)
   pub place : beacon_place y d d.out ≡ j
   pub inside : j < rounds_of y d.spot.hyper.mode
   pub at : moment y d ≡ d.spot.begin + round_tick y d.spot.hyper.mode j
+  pub right : RightPlan y.nodes (plan_at y d.spot.hyper.mode)
 
 -- the last event is in the hyperperiod of the last beacon d
 abbrev pub Here : System → List Step → Step → Type 0
@@ -255,7 +257,7 @@ module _ (y : System) (right : AllRight y) where
       let same : h.done ≡ d = ap (λ (o : Option Step). unwrap_or o d) (sym h.is_last ∙ e) in
       let is = subst (λ (z : ℕ). Is y z h.done.spot.index (round_tick y z j.0) (beacon j.0)) (sym h.mode) g.1 in
       let at = (subst (λ (x : Entry). RightAt (plan_at y h.done.spot.hyper.mode) x.tick x.action) is.1 (entry_right y.nodes (plan_at y h.done.spot.hyper.mode) h.done.spot.index is.0).1) in
-      let b : BeaconStep y h.done j.0 = record { is = is; place = g.2; inside = at.0; at = omega (arith, ap (λ (z : Entry). z.tick) is.1) } in
+      let b : BeaconStep y h.done j.0 = record { is = is; place = g.2; inside = at.0; at = omega (arith, ap (λ (z : Entry). z.tick) is.1); right = subst (λ (z : ℕ). RightPlan y.nodes (plan_at y z)) (sym h.mode) (right (advance lost ∷ es) rf) } in
       (j.0, subst (λ (q : Step). BeaconStep y q j.0) same b, inl (h, same)))
       (λ (no_beacon : opens_round entry.action ≡ false).
       let before = sym (cond-false (is_beacon d'.out) (Some d') (last_beacon ds) (out ∙ no_beacon)) ∙ e in
