@@ -18,7 +18,7 @@ Once xs x = (i j : ℕ) → i < length xs → j < length xs → get_or xs i none
 abbrev Free : List Entry → Entry → Type 0
 Free xs x = AllByRecursion (λ e. e ≡ x → ⊥) xs
 
-right_part : (xs ys : List Entry) (i : ℕ) → length xs ≤ i → get_or (xs ++ ys) i none ≡ get_or ys (i - length xs) none
+pub right_part : (xs ys : List Entry) (i : ℕ) → length xs ≤ i → get_or (xs ++ ys) i none ≡ get_or ys (i - length xs) none
 right_part xs ys i l = ap (λ z. get_or (xs ++ ys) z none) (let e : i ≡ length xs + (i - length xs) = omega (arith, l) in e) ∙ get_or-append-add xs ys (i - length xs) none
 
 inside : (xs ys : List Entry) (x : Entry) → Free ys x → (k : ℕ) → k < length (xs ++ ys) → get_or (xs ++ ys) k none ≡ x → k < length xs
