@@ -160,7 +160,7 @@ RightIn p u c e = (e.tick ≡ u) × (RightAt p u e.action) × (rank e.action ≡
 pub ends_right : (nodes : ℕ) (p : Plan) (u : ℕ) → AllByRecursion (RightIn p u 0) (by_node nodes p (due_end p u) task_ends u)
 ends_right nodes p u = all_by_node (RightIn p u 0) nodes p (due_end p u) task_ends u (λ a l t. (refl, (l, t), refl))
 
-starts_right : (nodes : ℕ) (p : Plan) (u : ℕ) → AllByRecursion (RightIn p u 2) (by_node nodes p (due_start p u) task_starts u)
+pub starts_right : (nodes : ℕ) (p : Plan) (u : ℕ) → AllByRecursion (RightIn p u 2) (by_node nodes p (due_start p u) task_starts u)
 starts_right nodes p u = all_by_node (RightIn p u 2) nodes p (due_start p u) task_starts u (λ a l t. (refl, (l, t), refl))
 
 round_right : (p : Plan) (u j : ℕ) → j < length p.schedule.starts → AllByRecursion (RightIn p u 1) (round_at p u j)

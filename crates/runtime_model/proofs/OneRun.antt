@@ -47,7 +47,7 @@ begins_run v r (requested m) e = absurd (grind (arith, e))
 begins_run v r (restarted w) e = absurd (grind (arith, e))
 
 module _ (y : System) (md : ℕ) (ok : RightPlan y.nodes (plan_at y md)) where
-  some : 1 ≤ length (entries y md)
+  pub some : 1 ≤ length (entries y md)
   some = let w = beacon_place y md ok 0 (omega (arith, ok.right.shape.some, ok.right.shape.starts)) in omega (arith, w.1.0)
 
   -- the start of a run on node v is past, and its end is not
@@ -63,7 +63,7 @@ module _ (y : System) (md : ℕ) (ok : RightPlan y.nodes (plan_at y md)) where
     pub begun : (z : ℤ) × (recall v st (begun_run r.task r.run) ds ≡ Some z)
     pub going : (n i u : ℕ) → Is y md i u (task_ends r.task) → n * H y md + u ≡ offset (plan_at y md) r.task + E (plan_at y md) r.task + r.run * P (plan_at y md) r.task → Before ds n i → ⊥
 
-  in_progress : (es : List PlainEvent) (st v : ℕ) (r : RunSeen) → (last_spot (history y es)).hyper.mode ≡ md → recall v st (last_run v) (history y es) ≡ Some (Some r) → InProgress (history y es) st v r
+  pub in_progress : (es : List PlainEvent) (st v : ℕ) (r : RunSeen) → (last_spot (history y es)).hyper.mode ≡ md → recall v st (last_run v) (history y es) ≡ Some (Some r) → InProgress (history y es) st v r
   in_progress [] st v r m e = absurd (grind (arith, e))
   in_progress (request q ∷ es) st v r m e =
       let ds = history y es in
@@ -194,8 +194,20 @@ module _ (y : System) (md : ℕ) (ok : RightPlan y.nodes (plan_at y md)) where
       (cases_lt b a))
       (cases_lt a b)
 
+-- a time has one hyperperiod and one tick
+pub same_tick : (h n t m u : ℕ) → t < h → u < h → n * h + t ≡ m * h + u → (n ≡ m) × (t ≡ u)
+same_tick h n t m u lt lu e =
+    ⊎_elim
+    (λ (less : n < m). absurd (omega (arith, turns_apart h n m less, e, lt)))
+    (λ (ge : m ≤ n). ⊎_elim
+    (λ (less : m < n). absurd (omega (arith, turns_apart h m n less, e, lu)))
+    (λ (le : n ≤ m). let q : n ≡ m = omega (arith, ge, le) in (q, omega (arith, e, ap (λ z. z * h) q)))
+    (cases_lt m n))
+    (cases_lt n m)
+
 -- ---- at a start
-clash : (y : System) (es : List PlainEvent) (lost v b l : ℕ) (ins : List (Option ℤ)) (x : ℤ) → RightPlan y.nodes (plan_at y (spot_next y (history y es)).hyper.mode) → (step_of y (advance lost) (history y es)).out ≡ started v b l ins x →
+-- no run is in progress on the node of a start that is performed
+pub clash : (y : System) (es : List PlainEvent) (lost v b l : ℕ) (ins : List (Option ℤ)) (x : ℤ) → RightPlan y.nodes (plan_at y (spot_next y (history y es)).hyper.mode) → (step_of y (advance lost) (history y es)).out ≡ started v b l ins x →
     (r : RunSeen) → recall v (spot_next y (history y es)).stay (last_run v) (history y es) ≡ Some (Some r) → ⊥
 clash y es lost v b l ins x ok out r e =
     let ds = history y es in
@@ -237,16 +249,6 @@ clash y es lost v b l ins x ok out r e =
         (λ (eq : k ≤ l). absurd (apart (omega (arith, ge, eq))))
         (cases_lt l k))
         (cases_lt k l)
-
-    same_tick : (h n t m u : ℕ) → t < h → u < h → n * h + t ≡ m * h + u → (n ≡ m) × (t ≡ u)
-    same_tick h n t m u lt lu e =
-        ⊎_elim
-        (λ (less : n < m). absurd (omega (arith, turns_apart h n m less, e, lt)))
-        (λ (ge : m ≤ n). ⊎_elim
-        (λ (less : m < n). absurd (omega (arith, turns_apart h m n less, e, lu)))
-        (λ (le : n ≤ m). let q : n ≡ m = omega (arith, ge, le) in (q, omega (arith, e, ap (λ z. z * h) q)))
-        (cases_lt m n))
-        (cases_lt n m)
 
     not_before : (n m i j : ℕ) → (n < m) ⊎ (n ≡ m) × (i < j) → n ≡ m → i ≡ j → ⊥
     not_before n m i j b q r = ⊎_elim (λ (l : n < m). omega (arith, l, q)) (λ (l : (n ≡ m) × (i < j)). omega (arith, l.1, r)) b

@@ -131,11 +131,11 @@ module _ (y : System) (md a : ℕ) (fit : TaskFits y.nodes (plan_at y md) a) whe
       not_early : (m n : ℕ) → n ≤ m → not (nat_lt m n) ≡ true
       not_early m n l = grind (arith, l)
 
-  whole_turns : (n u : ℕ) → n * H y md + u ≡ n * fit.turns * P (plan_at y md) a + u
+  pub whole_turns : (n u : ℕ) → n * H y md + u ≡ n * fit.turns * P (plan_at y md) a + u
   whole_turns n u = omega (arith, ap (λ x. n * x) fit.whole)
 
   -- the time of an end that ends a run
-  end_time : (n i u k : ℕ) → Is y md i u (task_ends a) → ends_run (plan_at y md) n u a ≡ true → k ≡ ending_run_at (plan_at y md) n u a → n * H y md + u ≡ offset (plan_at y md) a + E (plan_at y md) a + k * P (plan_at y md) a
+  pub end_time : (n i u k : ℕ) → Is y md i u (task_ends a) → ends_run (plan_at y md) n u a ≡ true → k ≡ ending_run_at (plan_at y md) n u a → n * H y md + u ≡ offset (plan_at y md) a + E (plan_at y md) a + k * P (plan_at y md) a
   end_time n i u k is late e =
       let p = plan_at y md in
       let r = entry_right y.nodes p i is.0 in
