@@ -1,5 +1,5 @@
 -- An end is performed exactly where the run in progress is of its task, and with that run's number and value
-use Rattle.std.proofs.Common.{◌≡◌, ℕ, suc, ◌+◌, ◌*◌, ◌%◌, ◌<◌, ◌≤◌, Bool, true, false, cond, not, ◌&&◌, List, [], ◌∷◌, length, get_or, refl, sym, ◌∙◌, ap, subst, arith, ◌⊎◌, inl, inr, ⊎_elim, ℤ}
+use Rattle.std.proofs.Common.{◌≡◌, ℕ, zero, suc, ◌+◌, ◌*◌, ◌%◌, ◌<◌, ◌≤◌, Bool, true, false, cond, not, ◌&&◌, List, [], ◌∷◌, length, get_or, refl, sym, ◌∙◌, ap, subst, arith, ◌⊎◌, inl, inr, ⊎_elim, ℤ}
 use Rattle.std.specs.Prelude.{nat_eq, nat_lt, Option, Some, None}
 use Rattle.std.proofs.lemmas.Bool.{cases_lt, cond-true, cond-false, eqb-true, eq-eqb, and_parts}
 use Rattle.runtime_model.specs.Plans.{Plan, RightPlan, node_of, offset}
@@ -11,6 +11,7 @@ use Rattle.runtime_model.specs.Packets.{packet}
 use Rattle.runtime_model.specs.System.{System, plan_at}
 use Rattle.runtime_model.specs.History.{history, step_of, spot_next, last_spot, next_place, entries, entry_at, performed, finished_or_not, sent_or_not, start_or_not}
 use Rattle.runtime_model.specs.Registers.{RunSeen, last_run, flat, running}
+use Rattle.runtime_model.specs.Laws.{EndsFollowRuns}
 use Rattle.runtime_model.proofs.Cycles.{none, entry_right, RightAt, rank}
 use Rattle.runtime_model.proofs.Once.{end_once}
 use Rattle.runtime_model.proofs.Spots.{moves, stands}
@@ -210,3 +211,172 @@ module _ (y : System) (md : ℕ) (ok : RightPlan y.nodes (plan_at y md)) where
 
       same_run : (r q : RunSeen) → Some (Some r) ≡ Some (Some q) → r ≡ q
       same_run r q e = grind (arith, e)
+
+-- ---- at an end
+
+-- the value of the run in progress, where it is one of this task
+abbrev pub value_in : ℕ → Option RunSeen → Option ℤ
+value_in a None = None
+value_in a (Some r) = cond (nat_eq r.task a) (Some r.value) None
+
+-- what an end of task a ends: the value of the run of its tick, where that run's start was performed and the node is unbroken since
+abbrev pub end_value : System → List Step → ℕ → Option ℤ
+end_value y ds a =
+    let s = spot_next y ds in
+    let p = plan_at y s.hyper.mode in
+    let u = (entry_at y s).tick in
+    cond (ends_run p s.turn u a) (recall (node_of p a) s.stay (begun_run a (ending_run_at p s.turn u a)) ds) None
+
+module _ (y : System) (es : List PlainEvent) (a : ℕ) (ok : RightPlan y.nodes (plan_at y (spot_next y (history y es)).hyper.mode)) (act : (entry_at y (spot_next y (history y es))).action ≡ task_ends a) where
+  abbrev ds : List Step
+  ds = history y es
+
+  abbrev s : Spot
+  s = spot_next y ds
+
+  abbrev p : Plan
+  p = plan_at y s.hyper.mode
+
+  abbrev u : ℕ
+  u = (entry_at y s).tick
+
+  here : Is y s.hyper.mode s.index u (task_ends a)
+  here = (in_entries y ds s (moves y ds (stands y es)) (some y s.hyper.mode ok), ap (λ (w : Action). record { tick = u; action = w }) act)
+
+  due : (a < length p.mode.tasks) × (due_end p u a ≡ true)
+  due = subst (λ (w : Action). RightAt p u w) act (entry_right y.nodes p s.index here.0).1
+
+  fit : TaskFits y.nodes p a
+  fit = task_fits y.nodes p ok a due.0
+
+  -- the run in progress of the task is the one that ends
+  ending_run : (r : RunSeen) → r.task ≡ a → InProgress y s.hyper.mode ok ds s.stay (node_of p a) r → (last_spot ds).stay ≡ s.stay → (ends_run p s.turn u a ≡ true) × (ending_run_at p s.turn u a ≡ r.run)
+  ending_run r task h stay =
+      let md = s.hyper.mode in
+      let mv = moves y ds (stands y es) in
+      let past = step_on y ds s h.turn h.index mv (sym stay) h.past in
+      let began = time_before y md h.turn h.index h.tick s.turn s.index u (task_starts r.task) (task_ends a) h.start here past in
+      let started_at : h.turn * H y md + h.tick ≡ offset p a + r.run * P p a = h.time ∙ ap (λ z. offset p z + r.run * P p z) task in
+      let after : offset p a + r.run * P p a < s.turn * H y md + u = omega (arith, began, started_at) in
+      let cls = eqb-true ((offset p a + E p a) % P p a) (u % P p a) due.1 ∙ sym (ap (λ x. x % P p a) (whole_turns y md a fit s.turn u) ∙ more_turns (P p a) (s.turn * fit.turns) u fit.period) in
+      let ends = not_less (s.turn * H y md + u) (offset p a + E p a) (late_enough (offset p a) (E p a) (P p a) (s.turn * H y md + u) (r.run * P p a) fit.period fit.short after cls) in
+      let time = end_time y md a fit s.turn s.index u (ending_run_at p s.turn u a) here ends refl in (
+        ends,
+        same (ending_run_at p s.turn u a) r.run
+            (λ l. omega (arith, turns_apart (P p a) (ending_run_at p s.turn u a) r.run l, time, after, fit.short))
+            (λ l.
+            let end = end_place y md a fit r.run in
+            let sooner = time_order y md end.0 end.1 end.2 s.turn s.index u (task_ends a) (task_ends a) end.3 here (omega (arith, end.4, time, turns_apart (P p a) r.run (ending_run_at p s.turn u a) l, fit.period)) in
+            let mode_ds = same_mode y ds s mv (sym stay) in
+            let its = subst (λ z. Is y md end.1 end.2 (task_ends z)) (sym task) end.3 in
+            let at = end.4 ∙ ap (λ z. offset p z + E p z + r.run * P p z) (sym task) in
+            h.going end.0 end.1 end.2 its at (step_back y ds s end.0 end.1 mv (sym stay) (subst (λ (z : ℕ). end.1 < length (entries y z)) (sym mode_ds) end.3.0) sooner)),
+      )
+    where
+      not_less : (m n : ℕ) → n ≤ m → not (nat_lt m n) ≡ true
+      not_less m n l = grind (arith, l)
+
+      same : (k r : ℕ) → (k < r → ⊥) → (r < k → ⊥) → k ≡ r
+      same k r f g = ⊎_elim (λ (l : k < r). absurd (f l)) (λ (l : r ≤ k). ⊎_elim (λ (m : r < k). absurd (g m)) (λ (m : k ≤ r). omega (arith, l, m)) (cases_lt r k)) (cases_lt k r)
+
+      -- a time of the class of o + e that is after o is at least o + e
+      late_enough : (o e q t x : ℕ) → 1 ≤ q → e ≤ q → o + x < t → (o + e) % q ≡ t % q → o + e ≤ t
+      late_enough o e q t x one short after cls =
+          ⊎_elim
+          (λ (early : t < o + e). let j = same_class q t (o + e) one (omega (arith, early)) (sym cls) in absurd (by_steps j.0 j.1 early))
+          (λ (le : o + e ≤ t). le)
+          (cases_lt t (o + e))
+        where
+          by_steps : (j : ℕ) → o + e ≡ t + j * q → t < o + e → ⊥
+          by_steps zero f early = omega (arith, f, early)
+          by_steps (suc j) f early = omega (arith, f, short, after)
+
+  -- a run that ends here is in progress
+  pub ends_running : (x : ℤ) → end_value y ds a ≡ Some x → recall (node_of p a) s.stay (last_run (node_of p a)) ds ≡ Some (Some (run_seen a (ending_run_at p s.turn u a) x))
+  ends_running x e =
+      let md = s.hyper.mode in
+      let mv = moves y ds (stands y es) in
+      let k = ending_run_at p s.turn u a in
+      let c = cond_some (ends_run p s.turn u a) (recall (node_of p a) s.stay (begun_run a k) ds) x e in
+      let stay = recall_stay (node_of p a) s.stay (begun_run a k) ds x c.1 in
+      let time = end_time y md a fit s.turn s.index u k here c.0 refl in
+      still_running y md ok es s.stay (node_of p a) a k x (same_mode y ds s mv (sym stay)) refl c.1 (next_ahead y md ok ds s a k u here time (λ n i b. step_on y ds s n i mv (sym stay) b))
+
+  -- a run of the task that is in progress ends here, with its value
+  pub running_ends : (r : RunSeen) → recall (node_of p a) s.stay (last_run (node_of p a)) ds ≡ Some (Some r) → r.task ≡ a → (ends_run p s.turn u a ≡ true) × (ending_run_at p s.turn u a ≡ r.run) × (end_value y ds a ≡ Some r.value)
+  running_ends r e task =
+      let md = s.hyper.mode in
+      let mv = moves y ds (stands y es) in
+      let v = node_of p a in
+      let k = ending_run_at p s.turn u a in
+      let stay = recall_stay v s.stay (last_run v) ds (Some r) e in
+      let mode_ds = same_mode y ds s mv (sym stay) in
+      let h = in_progress y md ok es s.stay v r mode_ds e in
+      let is = ending_run r task h stay in
+      let mine = still_running y md ok es s.stay v r.task r.run h.begun.0 mode_ds h.on h.begun.1 h.going in
+      let value = value_of (run_seen r.task r.run h.begun.0) r (sym mine ∙ e) in
+      let begun : recall v s.stay (begun_run a k) ds ≡ Some r.value =
+      ap (λ z. recall v s.stay (begun_run z k) ds) (sym task) ∙ ap (λ z. recall v s.stay (begun_run r.task z) ds) is.1 ∙ h.begun.1 ∙ ap (λ (z : ℤ). Some z) value in
+      (is.0, is.1, cond-true (ends_run p s.turn u a) (recall v s.stay (begun_run a k) ds) None is.0 ∙ begun)
+    where
+      value_of : (q r : RunSeen) → Some (Some q) ≡ Some (Some r) → q.value ≡ r.value
+      value_of q r e = ap (λ (z : RunSeen). z.value) (let same : q ≡ r = grind (arith, e) in same)
+
+  -- what an end ends is the value of the run in progress, where that is of its task
+  pub end_is_running : end_value y ds a ≡ value_in a (running (node_of p a) s.stay ds)
+  end_is_running = by_run (recall (node_of p a) s.stay (last_run (node_of p a)) ds) refl (end_value y ds a) refl
+    where
+      nothing : (r : RunSeen) → None ≡ Some (Some r) → ⊥
+      nothing r e = grind (arith, e)
+
+      empty : (r : RunSeen) → Some None ≡ Some (Some r) → ⊥
+      empty r e = grind (arith, e)
+
+      of_task : (q r : RunSeen) → Some (Some q) ≡ Some (Some r) → q.task ≡ r.task
+      of_task q r e = ap (λ (z : RunSeen). z.task) (let same : q ≡ r = grind (arith, e) in same)
+
+      by_task : (r : RunSeen) → recall (node_of p a) s.stay (last_run (node_of p a)) ds ≡ Some (Some r) → (o : Option ℤ) → end_value y ds a ≡ o → (b : Bool) → nat_eq r.task a ≡ b → end_value y ds a ≡ cond b (Some r.value) None
+      by_task r e o f true t = (running_ends r e (eqb-true r.task a t)).2
+      by_task r e None f false t = f
+      by_task r e (Some x) f false t = absurd (let q : true ≡ false = sym (eq-eqb r.task a (of_task r (run_seen a (ending_run_at p s.turn u a) x) (sym e ∙ ends_running x f))) ∙ t in cc)
+
+      by_run : (w : Option (Option RunSeen)) → recall (node_of p a) s.stay (last_run (node_of p a)) ds ≡ w → (o : Option ℤ) → end_value y ds a ≡ o → end_value y ds a ≡ value_in a (flat w)
+      by_run None e None f = f
+      by_run None e (Some x) f = absurd (nothing (run_seen a (ending_run_at p s.turn u a) x) (sym e ∙ ends_running x f))
+      by_run (Some None) e None f = f
+      by_run (Some None) e (Some x) f = absurd (empty (run_seen a (ending_run_at p s.turn u a) x) (sym e ∙ ends_running x f))
+      by_run (Some (Some r)) e o f = by_task r e o f (nat_eq r.task a) refl
+
+-- an end is performed, as a run with a value, exactly where that is the run in progress on its node
+pub ends_follow_runs : EndsFollowRuns
+ends_follow_runs y es lost a k x ok act = (forth, back)
+  where
+    ds : List Step
+    ds = history y es
+
+    s : Spot
+    s = spot_next y ds
+
+    p : Plan
+    p = plan_at y s.hyper.mode
+
+    v : ℕ
+    v = node_of p a
+
+    u : ℕ
+    u = (entry_at y s).tick
+
+    forth : (step_of y (advance lost) ds).out ≡ finished v a k x → running v s.stay ds ≡ Some (run_seen a k x)
+    forth out =
+        let f = ended_is y p s lost ds u (entry_at y s).action v a k x (ap end_of out) in
+        let value = cond-true (ends_run p s.turn u a) (recall v s.stay (begun_run a (ending_run_at p s.turn u a)) ds) None f.ends ∙ f.begun in
+        ap flat (ends_running y es a ok act x value) ∙ ap (λ n. Some (run_seen a n x)) (sym f.number)
+
+    full : (o : Option (Option RunSeen)) (r : RunSeen) → flat o ≡ Some r → o ≡ Some (Some r)
+    full None r e = absurd (grind (arith, e))
+    full (Some q) r e = ap (λ (z : Option RunSeen). Some z) e
+
+    back : running v s.stay ds ≡ Some (run_seen a k x) → (step_of y (advance lost) ds).out ≡ finished v a k x
+    back run =
+        let w = running_ends y es a ok act (run_seen a k x) (full (recall v s.stay (last_run v) ds) (run_seen a k x) run) refl in
+        ap (λ (z : Action). performed y p s lost ds u z) act ∙ ap (finished_or_not v a (ending_run_at p s.turn u a)) w.2 ∙ ap (λ n. finished v a n x) w.1

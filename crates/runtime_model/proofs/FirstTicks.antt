@@ -12,10 +12,10 @@ use Rattle.runtime_model.specs.Outcomes.{PlainEvent, advance, request, restart, 
 use Rattle.runtime_model.specs.System.{System, plan_at}
 use Rattle.runtime_model.specs.History.{history, step_of, last_spot, next_place, spot_next, entries, entry_at, moment, now_after}
 use Rattle.runtime_model.specs.Script.{opens_round}
-use Rattle.runtime_model.specs.Laws.{RequestsFit}
+use Rattle.runtime_model.specs.Laws.{RequestsFit, TicksRise}
 use Rattle.runtime_model.proofs.Cycles.{none, entry_right, cycle_rises, rises_at, rank, key}
 use Rattle.runtime_model.proofs.Spots.{Same, Within, Opens, moves, stands}
-use Rattle.runtime_model.proofs.Modes.{AllRight}
+use Rattle.runtime_model.proofs.Modes.{AllRight, all_right}
 use Rattle.runtime_model.proofs.Beacons.{Unseen, beacon_place, index_now, some}
 use Rattle.runtime_model.proofs.OutRegisters.{Is, H, in_cycle}
 
@@ -141,3 +141,6 @@ module _ (y : System) (right : AllRight y) where
       (λ (t : Stays y ds). (omega (arith, n, t.later, t.same.begin), omega (arith, i.0, t.inside, t.same.begin)))
       (λ (t : Turns y ds). (omega (arith, i.1, t.begin), omega (arith, i.0, t.begin, t.tick)))
       (onward es f)
+
+pub ticks_rise : TicksRise
+ticks_rise y plans es lost f = moments_rise y (all_right y plans) es lost f

@@ -10,7 +10,7 @@ use Rattle.runtime_model.specs.Outcomes.{PlainEvent, advance, request, restart, 
 use Rattle.runtime_model.specs.System.{System, plan_at}
 use Rattle.runtime_model.specs.History.{history, last_spot, marks_of}
 use Rattle.runtime_model.specs.HostOfEvents.{schedule_counts, calls_of, beacon_place}
-use Rattle.runtime_model.specs.Laws.{PlansAreRight, RequestsFit}
+use Rattle.runtime_model.specs.Laws.{RequestsFit, RoundsAreBegun}
 use Rattle.runtime_model.proofs.Beacons.{Seen, Unseen}
 use Rattle.runtime_model.proofs.Hosts.{fits, inside_fits, outside_fits}
 use Rattle.runtime_model.proofs.HostEvents.{Comes, Where, after}
@@ -50,9 +50,8 @@ seen_or_unseen y right es f =
     w.1
 
 -- the host is in a round exactly where the hyperperiod of the last event has begun
-pub inside_is_begun : (y : System) → PlansAreRight y → (es : List PlainEvent) → RequestsFit y es →
-    (call_state (schedule_counts y) (calls_of y (history y es))).inside ≡ (last_spot (history y es)).hyper.begun
-inside_is_begun y right es f =
+pub rounds_are_begun : RoundsAreBegun
+rounds_are_begun y right es f =
     let ds = history y es in
     let s = call_state (schedule_counts y) (calls_of y ds) in
     ⊎_elim

@@ -7,6 +7,7 @@ use Rattle.runtime_model.specs.Outcomes.{PlainEvent, advance, request, restart, 
 use Rattle.runtime_model.specs.LookingBack.{recall, settled}
 use Rattle.runtime_model.specs.System.{System}
 use Rattle.runtime_model.specs.History.{history, step_of, last_spot, marks_of, next_place, turns, arrival, turned, spot_next, entry_at, entries, is_first_beacon}
+use Rattle.runtime_model.specs.Laws.{StaysAreApart}
 use Rattle.runtime_model.proofs.Cycles.{none}
 use Rattle.runtime_model.proofs.Spots.{Alike, alike_marks, alike_both, alike_request, spot_with, Same, Within, Opens, moves, stands}
 use Rattle.runtime_model.proofs.Registers.{recall_stay}
@@ -16,8 +17,8 @@ use Rattle.runtime_model.proofs.Knowing.{settled_steady, phase_stands, steady_wi
 -- ---- a new stay
 
 -- a look back in another stay than that of the last event finds nothing
-pub other_stay : {X : Type 0} (v stay : ℕ) (f : Outcome → Option X) (ds : List Step) → ((last_spot ds).stay ≡ stay → ⊥) → recall v stay f ds ≡ None
-other_stay {X = X} v stay f ds other = by_case (recall v stay f ds) refl
+pub stays_are_apart : (X : Type 0) → StaysAreApart X
+stays_are_apart X v stay f ds other = by_case (recall v stay f ds) refl
   where
     by_case : (o : Option X) → recall v stay f ds ≡ o → recall v stay f ds ≡ None
     by_case None e = e
@@ -25,7 +26,7 @@ other_stay {X = X} v stay f ds other = by_case (recall v stay f ds) refl
 
 -- where the next Advance opens a stay, no node has anything of it yet
 pub opens_empty : {X : Type 0} (y : System) (v : ℕ) (f : Outcome → Option X) (ds : List Step) → Opens y ds (spot_next y ds) → recall v (spot_next y ds).stay f ds ≡ None
-opens_empty y v f ds m = other_stay v (spot_next y ds).stay f ds (λ e. omega (arith, e, m.stay))
+opens_empty {X = X} y v f ds m = stays_are_apart X v (spot_next y ds).stay f ds (λ e. omega (arith, e, m.stay))
 
 -- ---- a settled node
 

@@ -5,17 +5,17 @@ use Rattle.std.proofs.lemmas.Bool.{cases_lt, cases_Bool, cond-true, cond-false}
 use Rattle.sched_model.specs.Numbers.{natural}
 use Rattle.sched_model.specs.Rounds.{round_start}
 use Rattle.runtime_model.specs.Entries.{Entry, Action, beacon}
-use Rattle.runtime_model.specs.Plans.{RightPlan}
+use Rattle.runtime_model.specs.Plans.{RightPlan, first_round}
 use Rattle.runtime_model.specs.Outcomes.{PlainEvent, advance, request, restart, Step, is_beacon}
 use Rattle.runtime_model.specs.LookingBack.{last_beacon}
 use Rattle.runtime_model.specs.System.{System, plan_at}
-use Rattle.runtime_model.specs.History.{history, step_of, last_spot, next_place, spot_next, entries, entry_at, moment, now_after}
+use Rattle.runtime_model.specs.History.{history, step_of, last_spot, next_place, spot_next, entries, entry_at, moment, now_after, performed}
 use Rattle.runtime_model.specs.Script.{opens_round}
 use Rattle.runtime_model.specs.HostOfEvents.{beacon_place}
-use Rattle.runtime_model.specs.Laws.{RequestsFit}
+use Rattle.runtime_model.specs.Laws.{RequestsFit, BeaconsInOrder}
 use Rattle.runtime_model.proofs.Cycles.{none, entry_right, RightAt}
 use Rattle.runtime_model.proofs.Spots.{Same}
-use Rattle.runtime_model.proofs.Modes.{AllRight}
+use Rattle.runtime_model.proofs.Modes.{AllRight, all_right}
 use Rattle.runtime_model.proofs.OutRegisters.{Is, H, in_cycle}
 use Rattle.runtime_model.proofs.Beacons.{Seen, Unseen, outcome_is, seen_entry, beacon_order, not_lower, not_unseen, some_round, index_now, seen_or_not}
 use Rattle.runtime_model.proofs.Beacons
@@ -272,3 +272,30 @@ module _ (y : System) (right : AllRight y) where
       (λ (x : Anew y ds d w.0). gone (record { last = x.gone.last; unseen = unseen_still y right es lost x.stays.same no_beacon x.gone.unseen; begin = x.begin; now = omega (arith, x.tick) })) r)
       (next_stands es rf d w.0 w.1 w.2))
       (cases_Bool (opens_round entry.action))
+
+-- the beacons come in the order of the rounds
+pub beacons_in_order : BeaconsInOrder
+beacons_in_order y plans es lost g rf e rings =
+    let right = all_right y plans in
+    let ds = history y es in
+    let s = spot_next y ds in
+    let entry = entry_at y s in
+    let p = plan_at y s.hyper.mode in
+    let d = step_of y (advance lost) ds in
+    let i = seen_entry entry.action (sym (outcome_is y p s lost ds entry.tick entry.action) ∙ rings) in
+    let place : beacon_place y d d.out ≡ i.0 = ap (λ (w : Action). beacon_place y d (performed y p s lost ds entry.tick w)) i.1 ∙ minus (first_round y.plans s.hyper.mode) i.0 in
+    let w = last_stands y right es rf g e in
+    let j = w.0 in
+    ⊎_elim
+    (λ (x : Still y ds g j). inl (place ∙ (x.beacon i.0 i.1).0 ∙ ap suc (sym w.1.place), x.stay, x.turn, x.begin))
+    (λ r. inr (⊎_elim
+    (λ (x : Turning y ds g j). (ap suc w.1.place ∙ x.last, place ∙ x.beacon i.0 i.1, at s.begin entry.tick (g.spot.begin + H y g.spot.hyper.mode) x.begin x.turns.tick))
+    (λ (x : Anew y ds g j). (ap suc w.1.place ∙ x.gone.last, place ∙ x.beacon i.0 i.1, at s.begin entry.tick (g.spot.begin + H y g.spot.hyper.mode) x.begin x.tick))
+    r))
+    (next_stands y right es rf g j w.1 w.2)
+  where
+    minus : (n j : ℕ) → n + j - n ≡ j
+    minus n j = omega arith
+
+    at : (b t m : ℕ) → b ≡ m → t ≡ 0 → b + t ≡ m
+    at b t m e z = omega (arith, e, z)

@@ -12,9 +12,9 @@ use Rattle.runtime_model.specs.LookingBack.{last_beacon}
 use Rattle.runtime_model.specs.System.{System, plan_at}
 use Rattle.runtime_model.specs.History.{history, last_spot, next_place, spot_next, entries, entry_at, moment, now_after}
 use Rattle.runtime_model.specs.Script.{opens_round}
-use Rattle.runtime_model.specs.Laws.{RequestsFit}
+use Rattle.runtime_model.specs.Laws.{RequestsFit, SlotsFollowBeacons}
 use Rattle.runtime_model.proofs.Cycles.{none, entry_right, RightAt, cycle_rises, rises_at, key, rank}
-use Rattle.runtime_model.proofs.Modes.{AllRight}
+use Rattle.runtime_model.proofs.Modes.{AllRight, all_right}
 use Rattle.runtime_model.proofs.Times.{slot_carried}
 use Rattle.runtime_model.proofs.Beacons.{Seen, Unseen, seen_or_not, some, index_now, start_is, later_start}
 use Rattle.runtime_model.proofs.FirstTicks.{tick_rises, Stays, Turns, onward, moments_rise}
@@ -140,3 +140,9 @@ module _ (y : System) (right : AllRight y) where
               let one = one_round y md ok q j r.0 lj (r.1 ∙ same ∙ sym start) in
               (m, ap (λ (z : ℕ). entry_of z (slot q m)) same ∙ ap (λ (z : ℕ). entry_of t (slot z m)) one)
           by_action u (task_starts a) k c r = absurd (omega (arith, k))
+
+pub slots_follow_beacons : SlotsFollowBeacons
+slots_follow_beacons y plans es j i rf act =
+    let w = slot_stands y (all_right y plans) es rf j i act in
+    let x = w.1 in
+    (x.carried, (w.0, x.is_last, x.beacon.place, sym x.still.mode, sym x.still.stay, sym x.still.turn, sym x.now, sym x.next))

@@ -4,13 +4,13 @@ use Rattle.sched_model.specs.PlainMode.{hyper, task_at, message_at}
 use Rattle.runtime_model.specs.Timeline.{steady, drains}
 use Rattle.runtime_model.specs.HostCalls.{HostCall, AllMay, call_state, host_after, after_call}
 use Rattle.runtime_model.specs.Plans.{Plan, RightPlan, Carried, node_of, offset}
-use Rattle.runtime_model.specs.Entries.{slot, task_starts}
+use Rattle.runtime_model.specs.Entries.{slot, task_ends, task_starts}
 use Rattle.runtime_model.specs.Placement.{release, IsRelease, placed, own_slot, own_start, window_at, run_at}
-use Rattle.runtime_model.specs.Outcomes.{PlainEvent, advance, request, restart, Outcome, Step, is_beacon, took, sent, started}
+use Rattle.runtime_model.specs.Outcomes.{PlainEvent, advance, request, restart, Outcome, Step, is_beacon, took, sent, started, finished}
 use Rattle.runtime_model.specs.LookingBack.{LookedBack, synced, settled, coasts, recall, last_beacon}
 use Rattle.runtime_model.specs.System.{System, plan_at}
 use Rattle.runtime_model.specs.Packets.{held}
-use Rattle.runtime_model.specs.History.{history, outcome_of, step_of, spot_next, entry_at, last_spot, marks_of, moment}
+use Rattle.runtime_model.specs.History.{history, outcome_of, step_of, spot_next, entry_at, last_spot, marks_of, moment, now_after}
 use Rattle.runtime_model.specs.NodeKinds.{kind, kind_by}
 use Rattle.runtime_model.specs.HostOfEvents.{schedule_counts, calls_of, beacon_place}
 use Rattle.runtime_model.specs.Registers.{registers, in_register, values_of, running}
@@ -124,3 +124,44 @@ NothingIsMissing = (y : System) → PlansAreRight y → (es : List PlainEvent) (
     let s = spot_next y (history y es) in
     let p = plan_at y s.hyper.mode in
     (i : ℕ) → i < length p.mode.messages → Contains (message_at p.mode i).to b → (xs : List ℤ) × (recall v s.stay (took v i k) (history y es) ≡ Some xs)
+
+-- the host is in a round exactly where the first beacon of the last event's hyperperiod was sent
+abbrev pub RoundsAreBegun : Type 0
+RoundsAreBegun = (y : System) → PlansAreRight y → (es : List PlainEvent) → RequestsFit y es → (call_state (schedule_counts y) (calls_of y (history y es))).inside ≡ (last_spot (history y es)).hyper.begun
+
+-- ticks never fall, and one Advance moves on by at most the hyperperiod of the mode of the last event
+abbrev pub TicksRise : Type 0
+TicksRise = (y : System) → PlansAreRight y → (es : List PlainEvent) (lost : ℕ) → RequestsFit y es →
+    let ds = history y es in
+    let d = step_of y (advance lost) ds in
+    (now_after y ds ≤ moment y d) × (moment y d ≤ now_after y ds + hyper (plan_at y (last_spot ds).hyper.mode).mode)
+
+-- the next beacon is that of the round after the last beacon's, in the same hyperperiod; or the last beacon's round was the last of its mode,
+-- and the next one is the first round's, one hyperperiod of that mode after the start of that beacon's
+abbrev pub BeaconsInOrder : Type 0
+BeaconsInOrder = (y : System) → PlansAreRight y → (es : List PlainEvent) (lost : ℕ) (g : Step) → RequestsFit y es → last_beacon (history y es) ≡ Some g →
+    let d = step_of y (advance lost) (history y es) in
+    is_beacon d.out ≡ true →
+    ((beacon_place y d d.out ≡ suc (beacon_place y g g.out)) × (d.spot.stay ≡ g.spot.stay) × (d.spot.turn ≡ g.spot.turn) × (d.spot.begin ≡ g.spot.begin))
+    ⊎ ((suc (beacon_place y g g.out) ≡ length (plan_at y g.spot.hyper.mode).schedule.starts) × (beacon_place y d d.out ≡ 0) × (moment y d ≡ g.spot.begin + hyper (plan_at y g.spot.hyper.mode).mode))
+
+-- at a slot the last beacon was that of the slot's round, in the same hyperperiod and at the same tick, and its table carries the slot's message
+abbrev pub SlotsFollowBeacons : Type 0
+SlotsFollowBeacons = (y : System) → PlansAreRight y → (es : List PlainEvent) (j i : ℕ) → RequestsFit y es →
+    let ds = history y es in
+    let s = spot_next y ds in
+    (entry_at y s).action ≡ slot j i → Carried (plan_at y s.hyper.mode) j i
+    × ((g : Step) × (last_beacon ds ≡ Some g) × (beacon_place y g g.out ≡ j) × (g.spot.hyper.mode ≡ s.hyper.mode) × (g.spot.stay ≡ s.stay) × (g.spot.turn ≡ s.turn) × (moment y g ≡ now_after y ds) × (moment y g ≡ s.begin + (entry_at y s).tick))
+
+-- an end of task a is performed, of run k with value x, exactly where that is the run in progress on its node
+abbrev pub EndsFollowRuns : Type 0
+EndsFollowRuns = (y : System) (es : List PlainEvent) (lost a k : ℕ) (x : ℤ) →
+    let ds = history y es in
+    let s = spot_next y ds in
+    let p = plan_at y s.hyper.mode in
+    RightPlan y.nodes p → (entry_at y s).action ≡ task_ends a →
+    ((step_of y (advance lost) ds).out ≡ finished (node_of p a) a k x) ↔ (running (node_of p a) s.stay ds ≡ Some (record { task = a; run = k; value = x }))
+
+-- nothing of an earlier stay is found by looking back in another
+abbrev pub StaysAreApart : Type 0 → Type 0
+StaysAreApart X = (v stay : ℕ) (f : Outcome → Option X) (ds : List Step) → ((last_spot ds).stay ≡ stay → ⊥) → recall v stay f ds ≡ None

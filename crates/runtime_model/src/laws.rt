@@ -1,7 +1,7 @@
 //! Laws of the runtime. Each holds for every list of events, or of calls.
 
 ghost use Rattle.std.specs.Prelude.{List, ℤ};
-ghost use Rattle.runtime_model.specs.Laws.{BeaconGap, HostsFollowEvents, HostsKeepTime, InputsHold, KindsFollow, NothingIsMissing, OneRunAtATime, RecallLooksBack, RegistersHold, ReleasesFit, RunsEndBeforeSwitch, SendersAreSynced, SettledNodesKnow};
+ghost use Rattle.runtime_model.specs.Laws.{BeaconGap, BeaconsInOrder, EndsFollowRuns, HostsFollowEvents, HostsKeepTime, InputsHold, KindsFollow, NothingIsMissing, OneRunAtATime, RecallLooksBack, RegistersHold, ReleasesFit, RoundsAreBegun, RunsEndBeforeSwitch, SendersAreSynced, SettledNodesKnow, SlotsFollowBeacons, StaysAreApart, TicksRise};
 
 /// A host that stands for a list of its calls stands for the list with one more, whose condition holds.
 pub fn hosts_keep_time()
@@ -67,4 +67,35 @@ pub fn settled_nodes_know()
 /// Where nothing is lost and nobody restarts, every run that is started has all its inputs.
 pub fn nothing_is_missing()
     ensures { NothingIsMissing }
+{}
+
+/// The host is in a round exactly where the first beacon of the hyperperiod was sent.
+pub fn rounds_are_begun()
+    ensures { RoundsAreBegun }
+{}
+
+/// Ticks never fall, and no step moves on by more than a hyperperiod.
+pub fn ticks_rise()
+    ensures { TicksRise }
+{}
+
+/// The beacons come in the order of the rounds, hyperperiod by hyperperiod.
+pub fn beacons_in_order()
+    ensures { BeaconsInOrder }
+{}
+
+/// A slot follows the beacon of its round at the same tick.
+pub fn slots_follow_beacons()
+    ensures { SlotsFollowBeacons }
+{}
+
+/// An end is performed exactly where the run in progress is of its task, and with that run's number and value.
+pub fn ends_follow_runs()
+    ensures { EndsFollowRuns }
+{}
+
+/// Nothing of an earlier stay is found by looking back in another.
+pub fn stays_are_apart()
+    ensures values { StaysAreApart ℤ }
+    ensures packets { StaysAreApart (List ℤ) }
 {}
