@@ -1,25 +1,25 @@
 -- An end is performed exactly where the run in progress is of its task, and with that run's number and value
 use Rattle.std.proofs.Common.{◌≡◌, ℕ, zero, suc, ◌+◌, ◌*◌, ◌%◌, ◌<◌, ◌≤◌, Bool, true, false, cond, not, ◌&&◌, List, [], ◌∷◌, length, get_or, refl, sym, ◌∙◌, ap, subst, arith, ◌⊎◌, inl, inr, ⊎_elim, ℤ}
 use Rattle.std.specs.Prelude.{nat_eq, nat_lt, Option, Some, None}
-use Rattle.std.proofs.lemmas.Bool.{cases_lt, cond-true, cond-false, eqb-true, eq-eqb, and_parts}
+use Rattle.std.proofs.lemmas.Bool.{cases_lt, cond-true, eqb-true, eq-eqb, and_parts}
 use Rattle.runtime_model.specs.Plans.{Plan, RightPlan, node_of, offset}
-use Rattle.runtime_model.specs.Entries.{Entry, Action, task_ends, beacon, slot, task_starts, due_end}
+use Rattle.runtime_model.specs.Entries.{Action, task_ends, beacon, slot, task_starts, due_end}
 use Rattle.runtime_model.specs.Placement.{placed, own_start, ends_run, ending_run_at}
 use Rattle.runtime_model.specs.Outcomes.{PlainEvent, advance, request, restart, Spot, Outcome, beaconed, sent, silent, started, off, finished, void, requested, restarted, Step, begun_run}
 use Rattle.runtime_model.specs.LookingBack.{runs, recall, or_else}
 use Rattle.runtime_model.specs.Packets.{packet}
 use Rattle.runtime_model.specs.System.{System, plan_at}
-use Rattle.runtime_model.specs.History.{history, step_of, spot_next, last_spot, next_place, entries, entry_at, performed, finished_or_not, sent_or_not, start_or_not}
+use Rattle.runtime_model.specs.History.{history, step_of, spot_next, last_spot, entries, entry_at, performed, finished_or_not, sent_or_not, start_or_not}
 use Rattle.runtime_model.specs.Registers.{RunSeen, last_run, flat, running}
 use Rattle.runtime_model.specs.Laws.{EndsFollowRuns}
-use Rattle.runtime_model.proofs.Cycles.{none, entry_right, RightAt, rank}
+use Rattle.runtime_model.proofs.Cycles.{none, entry_right, RightAt}
 use Rattle.runtime_model.proofs.Once.{end_once}
 use Rattle.runtime_model.proofs.Spots.{moves, stands}
 use Rattle.runtime_model.proofs.TaskTimes.{TaskFits}
 use Rattle.runtime_model.proofs.Times.{task_fits}
 use Rattle.runtime_model.proofs.Instances.{same_class, more_turns}
 use Rattle.runtime_model.proofs.Registers.{cond_some, or_cases, found_now, recall_stay}
-use Rattle.runtime_model.proofs.OutRegisters.{Is, H, P, E, BeforeSpot, Before, step_back, step_on, same_mode, time_order, time_before, turns_apart, in_cycle, end_time, end_place, whole_turns, both_true}
+use Rattle.runtime_model.proofs.OutRegisters.{Is, H, P, E, BeforeSpot, Before, step_back, step_on, same_mode, time_order, time_before, turns_apart, in_cycle, end_time, end_place, whole_turns}
 use Rattle.runtime_model.proofs.Switches.{start_of, started_is, in_entries}
 use Rattle.runtime_model.proofs.OneRun.{some, InProgress, in_progress, clash, same_tick}
 

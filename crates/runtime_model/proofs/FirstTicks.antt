@@ -1,11 +1,8 @@
 -- A cycle has a beacon, and what stands before its first beacon is at tick 0; ticks never fall
-use Rattle.std.proofs.Common.{◌≡◌, ℕ, zero, suc, ◌+◌, ◌<◌, ◌≤◌, Bool, true, false, cond, List, [], ◌∷◌, length, get_or, refl, sym, ◌∙◌, ap, subst, arith, ◌⊎◌, inl, inr, ⊎_elim, pos}
-use Rattle.std.proofs.lemmas.Int.{ints}
+use Rattle.std.proofs.Common.{◌≡◌, ℕ, suc, ◌+◌, ◌<◌, ◌≤◌, true, false, List, [], ◌∷◌, length, get_or, refl, sym, ◌∙◌, ap, arith, ◌⊎◌, inl, inr, ⊎_elim}
 use Rattle.std.proofs.lemmas.Bool.{cases_lt}
 use Rattle.sched_model.specs.Numbers.{natural}
-use Rattle.sched_model.specs.PlainMode.{hyper}
 use Rattle.sched_model.specs.Rounds.{round_start}
-use Rattle.sched_model.proofs.Hyperperiods.{hyper_some}
 use Rattle.runtime_model.specs.Entries.{Entry, Action, task_ends, beacon, slot, task_starts}
 use Rattle.runtime_model.specs.Plans.{RightPlan}
 use Rattle.runtime_model.specs.Outcomes.{PlainEvent, advance, request, restart, Step}
@@ -13,11 +10,11 @@ use Rattle.runtime_model.specs.System.{System, plan_at}
 use Rattle.runtime_model.specs.History.{history, step_of, last_spot, next_place, spot_next, entries, entry_at, moment, now_after}
 use Rattle.runtime_model.specs.Script.{opens_round}
 use Rattle.runtime_model.specs.Laws.{RequestsFit, TicksRise}
-use Rattle.runtime_model.proofs.Cycles.{none, entry_right, cycle_rises, rises_at, rank, key}
+use Rattle.runtime_model.proofs.Cycles.{none, entry_right, cycle_rises, rises_at, rank}
 use Rattle.runtime_model.proofs.Spots.{Same, Within, Opens, moves, stands}
 use Rattle.runtime_model.proofs.Modes.{AllRight, all_right}
 use Rattle.runtime_model.proofs.Beacons.{Unseen, beacon_place, index_now, some}
-use Rattle.runtime_model.proofs.OutRegisters.{Is, H, in_cycle}
+use Rattle.runtime_model.proofs.OutRegisters.{H}
 
 -- the tick of an entry by its key
 kinds : (w : Action) → rank w ≤ 2

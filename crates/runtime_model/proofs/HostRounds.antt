@@ -1,19 +1,19 @@
 -- The host's round against the timeline, and the numbers of the modes' first rounds
-use Rattle.std.proofs.Common.{◌≡◌, ℕ, zero, suc, ◌+◌, ◌<◌, Bool, true, false, cond, List, [], ◌∷◌, length, get_or, map, refl, sym, ◌∙◌, ap, subst, arith, ◌⊎◌, inl, inr, ⊎_elim}
+use Rattle.std.proofs.Common.{◌≡◌, ℕ, zero, suc, ◌+◌, ◌<◌, Bool, true, false, cond, List, [], ◌∷◌, length, get_or, map, refl, sym, ◌∙◌, ap, arith, ◌⊎◌, inl, inr, ⊎_elim}
 use Rattle.sched_model.specs.Numbers.{natural}
 use Rattle.sched_model.specs.Rounds.{round_start}
 use Rattle.runtime_model.specs.Entries.{beacon}
-use Rattle.runtime_model.specs.Timeline.{Hyperperiod, Timeline, timeline_of, request_in}
-use Rattle.runtime_model.specs.HostCalls.{CallState, call_state}
+use Rattle.runtime_model.specs.Timeline.{Hyperperiod, timeline_of, request_in}
+use Rattle.runtime_model.specs.HostCalls.{call_state}
 use Rattle.runtime_model.specs.Plans.{Plan, round_counts, first_round, first_rounds}
-use Rattle.runtime_model.specs.Outcomes.{PlainEvent, advance, request, restart, Step}
+use Rattle.runtime_model.specs.Outcomes.{PlainEvent, advance, request, restart}
 use Rattle.runtime_model.specs.System.{System, plan_at}
 use Rattle.runtime_model.specs.History.{history, last_spot, marks_of}
 use Rattle.runtime_model.specs.HostOfEvents.{schedule_counts, calls_of, beacon_place}
 use Rattle.runtime_model.specs.Laws.{RequestsFit, RoundsAreBegun}
 use Rattle.runtime_model.proofs.Beacons.{Seen, Unseen}
 use Rattle.runtime_model.proofs.Hosts.{fits, inside_fits, outside_fits}
-use Rattle.runtime_model.proofs.HostEvents.{Comes, Where, after}
+use Rattle.runtime_model.proofs.HostEvents.{Comes, after}
 use Rattle.runtime_model.proofs.Modes.{AllRight, all_right}
 use Rattle.runtime_model.proofs.OutRegisters.{Is}
 

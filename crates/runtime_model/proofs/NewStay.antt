@@ -1,15 +1,14 @@
 -- What a new stay, a request and a restart leave of where the next entry stands
-use Rattle.std.proofs.Common.{◌≡◌, ℕ, suc, Bool, true, false, cond, List, [], ◌∷◌, ◌++◌, get_or, refl, sym, ◌∙◌, ap, subst, arith, ⊎_elim}
+use Rattle.std.proofs.Common.{◌≡◌, ℕ, suc, Bool, true, false, cond, List, [], ◌∷◌, ◌++◌, get_or, refl, sym, ◌∙◌, ap, subst, arith}
 use Rattle.std.specs.Prelude.{Option, Some, None}
-use Rattle.std.proofs.lemmas.Bool.{cond-false}
-use Rattle.runtime_model.specs.Timeline.{PlainPhase, steady, warn, drain, drains, Hyperperiod, Mark, asked, begins, ended, timeline_of, request_in, follows}
-use Rattle.runtime_model.specs.Outcomes.{PlainEvent, advance, request, restart, Outcome, Spot, Step}
+use Rattle.runtime_model.specs.Timeline.{drains, Hyperperiod, Mark, asked, begins, ended, timeline_of, request_in, follows}
+use Rattle.runtime_model.specs.Outcomes.{PlainEvent, request, restart, Outcome, Spot, Step}
 use Rattle.runtime_model.specs.LookingBack.{recall, settled}
 use Rattle.runtime_model.specs.System.{System}
 use Rattle.runtime_model.specs.History.{history, step_of, last_spot, marks_of, next_place, turns, arrival, turned, spot_next, entry_at, entries, is_first_beacon}
 use Rattle.runtime_model.specs.Laws.{StaysAreApart}
 use Rattle.runtime_model.proofs.Cycles.{none}
-use Rattle.runtime_model.proofs.Spots.{Alike, alike_marks, alike_both, alike_request, spot_with, Same, Within, Opens, moves, stands}
+use Rattle.runtime_model.proofs.Spots.{Alike, alike_marks, alike_both, alike_request, spot_with, Opens}
 use Rattle.runtime_model.proofs.Registers.{recall_stay}
 use Rattle.runtime_model.proofs.HostRounds.{request_begun}
 use Rattle.runtime_model.proofs.Knowing.{settled_steady, phase_stands, steady_with, request_phase, arrival_mode}

@@ -1,7 +1,7 @@
 -- Where the next entry stands to the last beacon
-use Rattle.std.proofs.Common.{◌≡◌, ℕ, suc, ◌+◌, ◌-◌, ◌<◌, ◌≤◌, Bool, true, false, cond, List, [], ◌∷◌, length, get_or, refl, sym, ◌∙◌, ap, subst, arith, ◌⊎◌, inl, inr, ⊎_elim}
-use Rattle.std.specs.Prelude.{Option, Some, None, unwrap_or}
-use Rattle.std.proofs.lemmas.Bool.{cases_lt, cases_Bool, cond-true, cond-false}
+use Rattle.std.proofs.Common.{◌≡◌, ℕ, suc, ◌+◌, ◌-◌, ◌<◌, ◌≤◌, true, false, List, [], ◌∷◌, length, get_or, sym, ◌∙◌, ap, subst, arith, ◌⊎◌, inl, inr, ⊎_elim}
+use Rattle.std.specs.Prelude.{Option, Some, unwrap_or}
+use Rattle.std.proofs.lemmas.Bool.{cases_lt, cases_Bool, cond-false}
 use Rattle.sched_model.specs.Numbers.{natural}
 use Rattle.sched_model.specs.Rounds.{round_start}
 use Rattle.runtime_model.specs.Entries.{Entry, Action, beacon}
@@ -14,13 +14,11 @@ use Rattle.runtime_model.specs.Script.{opens_round}
 use Rattle.runtime_model.specs.HostOfEvents.{beacon_place}
 use Rattle.runtime_model.specs.Laws.{RequestsFit, BeaconsInOrder}
 use Rattle.runtime_model.proofs.Cycles.{none, entry_right, RightAt}
-use Rattle.runtime_model.proofs.Spots.{Same}
 use Rattle.runtime_model.proofs.Modes.{AllRight, all_right}
-use Rattle.runtime_model.proofs.OutRegisters.{Is, H, in_cycle}
-use Rattle.runtime_model.proofs.Beacons.{Seen, Unseen, outcome_is, seen_entry, beacon_order, not_lower, not_unseen, some_round, index_now, seen_or_not}
-use Rattle.runtime_model.proofs.Beacons
+use Rattle.runtime_model.proofs.OutRegisters.{Is, H}
+use Rattle.runtime_model.proofs.Beacons.{Seen, Unseen, outcome_is, seen_entry, beacon_order, not_lower, not_unseen, some_round, index_now}
 use Rattle.runtime_model.proofs.HostEvents.{seen_at, seen_still, unseen_still, unseen_anew, beacon_place_in, follows_seen}
-use Rattle.runtime_model.proofs.FirstTicks.{tick_rises, first_ticks, Stays, Turns, onward, now_is, unseen_now}
+use Rattle.runtime_model.proofs.FirstTicks.{tick_rises, first_ticks, Stays, Turns, onward, now_is}
 
 -- how many rounds a mode has, and the tick at which one of them starts
 abbrev pub rounds_of : System → ℕ → ℕ

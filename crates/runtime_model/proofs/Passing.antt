@@ -1,19 +1,19 @@
 -- What passes between the last event and the next Advance, as a running node sees it: the conditions of its passing of ticks and of a missed beacon
-use Rattle.std.proofs.Common.{◌≡◌, ℕ, suc, ◌+◌, ◌-◌, ◌<◌, ◌≤◌, Bool, true, false, cond, not, ◌&&◌, List, [], ◌∷◌, length, get_or, refl, sym, ◌∙◌, ap, subst, arith, ◌⊎◌, inl, inr, ⊎_elim}
+use Rattle.std.proofs.Common.{◌≡◌, ℕ, suc, ◌+◌, ◌-◌, ◌<◌, ◌≤◌, Bool, true, false, cond, not, ◌&&◌, List, get_or, refl, sym, ◌∙◌, ap, arith, ◌⊎◌, inl, inr, ⊎_elim}
 use Rattle.std.specs.Prelude.{nat_eq, nat_lt, nat_le, Some}
 use Rattle.std.proofs.lemmas.Bool.{cases_lt}
 use Rattle.sched_model.proofs.Hyperperiods.{hyper_some}
 use Rattle.runtime_model.specs.Entries.{Entry, beacon}
-use Rattle.runtime_model.specs.Outcomes.{PlainEvent, advance, Step}
+use Rattle.runtime_model.specs.Outcomes.{PlainEvent, Step}
 use Rattle.runtime_model.specs.HostCalls.{call_state}
 use Rattle.runtime_model.specs.HostOfEvents.{schedule_counts, calls_of}
 use Rattle.runtime_model.specs.System.{System, plan_at}
-use Rattle.runtime_model.specs.History.{history, last_spot, next_place, spot_next, entries, entry_at, moment, now_after}
+use Rattle.runtime_model.specs.History.{history, last_spot, spot_next, entries, entry_at, moment, now_after}
 use Rattle.runtime_model.specs.Laws.{RequestsFit}
 use Rattle.runtime_model.specs.LookingBack.{last_beacon}
 use Rattle.runtime_model.proofs.Modes.{AllRight}
 use Rattle.runtime_model.proofs.Cycles.{none}
-use Rattle.runtime_model.proofs.OutRegisters.{Is, H, in_cycle}
+use Rattle.runtime_model.proofs.OutRegisters.{H, in_cycle}
 use Rattle.runtime_model.proofs.Beacons.{Seen, Unseen}
 use Rattle.runtime_model.proofs.FirstTicks.{tick_rises, first_start, last_index, now_is, now_inside, moments_rise, Stays, Turns}
 use Rattle.runtime_model.proofs.NextRound.{rounds_of, round_tick, BeaconStep, Here, Gone, Still, Turning, Anew, next_stands, last_stands}

@@ -1,9 +1,8 @@
 -- At a slot the last beacon is that of its round, and no tick has passed since
-use Rattle.std.proofs.Common.{◌≡◌, ℕ, suc, ◌+◌, ◌-◌, ◌*◌, ◌<◌, ◌≤◌, Bool, true, false, List, [], ◌∷◌, length, get_or, refl, sym, ◌∙◌, ap, subst, arith, ◌⊎◌, inl, inr, ⊎_elim}
+use Rattle.std.proofs.Common.{◌≡◌, ℕ, suc, ◌+◌, ◌-◌, ◌*◌, ◌<◌, ◌≤◌, true, false, List, ◌∷◌, length, get_or, refl, sym, ◌∙◌, ap, subst, arith, inl, ⊎_elim}
 use Rattle.std.specs.Prelude.{Some}
 use Rattle.std.proofs.lemmas.Int.{ints}
 use Rattle.std.proofs.lemmas.Bool.{cases_lt}
-use Rattle.sched_model.specs.Numbers.{natural}
 use Rattle.sched_model.specs.Rounds.{round_start}
 use Rattle.runtime_model.specs.Entries.{Entry, Action, task_ends, beacon, slot, task_starts}
 use Rattle.runtime_model.specs.Plans.{RightPlan, Carried}
@@ -18,7 +17,7 @@ use Rattle.runtime_model.proofs.Modes.{AllRight, all_right}
 use Rattle.runtime_model.proofs.Times.{slot_carried}
 use Rattle.runtime_model.proofs.Beacons.{Seen, Unseen, seen_or_not, some, index_now, start_is, later_start}
 use Rattle.runtime_model.proofs.FirstTicks.{tick_rises, Stays, Turns, onward, moments_rise}
-use Rattle.runtime_model.proofs.NextRound.{rounds_of, round_tick, BeaconStep, Here, Gone, Still, Turning, Anew, next_stands, last_stands}
+use Rattle.runtime_model.proofs.NextRound.{rounds_of, round_tick, BeaconStep, Still, Turning, Anew, next_stands, last_stands}
 use Rattle.runtime_model.proofs.Passing.{moment_next, here_now}
 use Rattle.runtime_model.proofs.SlotRound.{slot_led}
 

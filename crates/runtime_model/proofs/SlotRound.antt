@@ -1,5 +1,5 @@
 -- A slot follows the beacon of its round, with only slots of that round between
-use Rattle.std.proofs.Common.{◌≡◌, ℕ, zero, suc, ◌+◌, ◌-◌, ◌<◌, ◌≤◌, Bool, true, false, cond, List, [], ◌∷◌, ◌++◌, length, get_or, map, refl, sym, ◌∙◌, ap, subst, arith, ⊎_elim, length-append}
+use Rattle.std.proofs.Common.{◌≡◌, ℕ, zero, suc, ◌+◌, ◌-◌, ◌<◌, ◌≤◌, Bool, true, false, cond, List, [], ◌∷◌, ◌++◌, length, get_or, map, sym, ◌∙◌, ap, arith, ⊎_elim, length-append}
 use Rattle.std.specs.Prelude.{nat_eq, slice_index_or}
 use Rattle.std.specs.List.{AllByRecursion, flat_map}
 use Rattle.std.proofs.lemmas.Bool.{cases_lt}
@@ -7,7 +7,7 @@ use Rattle.std.proofs.lemmas.List.{get_or_append_left, get_or-append-add, get_or
 use Rattle.sched_model.specs.Numbers.{below, natural}
 use Rattle.sched_model.specs.PlainMode.{hyper}
 use Rattle.sched_model.specs.Rounds.{round_start}
-use Rattle.runtime_model.specs.Entries.{Entry, Action, task_ends, beacon, slot, task_starts, cycle, at_tick, by_node, round_at, due_start, due_end}
+use Rattle.runtime_model.specs.Entries.{Entry, task_ends, beacon, slot, task_starts, cycle, at_tick, by_node, round_at, due_start, due_end}
 use Rattle.runtime_model.specs.Plans.{Plan, place_from}
 use Rattle.runtime_model.proofs.Cycles.{none, all_at, all_by_node}
 use Rattle.runtime_model.proofs.Once.{right_part}
