@@ -61,7 +61,7 @@ follows_request h m = by_test h.begun
     by_test true = refl
     by_test false = refl
 
-request_mode : (h : Hyperperiod) (m : ℕ) → (request_in h m).mode ≡ h.mode
+pub request_mode : (h : Hyperperiod) (m : ℕ) → (request_in h m).mode ≡ h.mode
 request_mode h m = by_test h.begun
   where
     by_test : (b : Bool) → (cond b (record h { late = m ∷ h.late }) (record h { early = m ∷ h.early })).mode ≡ h.mode

@@ -1,16 +1,16 @@
 -- Laws of the runtime, over every list of events
-use Rattle.std.specs.Prelude.{◌≡◌, ℕ, suc, ◌+◌, ◌*◌, ◌<◌, ◌≤◌, ◌↔◌, ◌⊎◌, true, false, List, [], ◌∷◌, length, Contains, Option, Some, None, ℤ}
+use Rattle.std.specs.Prelude.{◌≡◌, ℕ, suc, ◌+◌, ◌*◌, ◌<◌, ◌≤◌, ◌↔◌, ◌⊎◌, true, false, List, [], ◌∷◌, ◌++◌, length, take, Contains, Option, Some, None, ℤ}
 use Rattle.sched_model.specs.PlainMode.{hyper, task_at, message_at}
-use Rattle.runtime_model.specs.Timeline.{steady, drains}
+use Rattle.runtime_model.specs.Timeline.{steady, drains, Hyperperiod, timeline_of}
 use Rattle.runtime_model.specs.HostCalls.{HostCall, AllMay, call_state, host_after, after_call}
 use Rattle.runtime_model.specs.Plans.{Plan, RightPlan, Carried, node_of, offset}
-use Rattle.runtime_model.specs.Entries.{slot, task_ends, task_starts}
+use Rattle.runtime_model.specs.Entries.{Entry, slot, task_ends, task_starts}
 use Rattle.runtime_model.specs.Placement.{release, IsRelease, placed, own_slot, own_start, window_at, run_at}
 use Rattle.runtime_model.specs.Outcomes.{PlainEvent, advance, request, restart, Outcome, Step, is_beacon, took, sent, started, finished}
 use Rattle.runtime_model.specs.LookingBack.{LookedBack, synced, settled, coasts, recall, last_beacon}
 use Rattle.runtime_model.specs.System.{System, plan_at}
 use Rattle.runtime_model.specs.Packets.{held}
-use Rattle.runtime_model.specs.History.{history, outcome_of, step_of, spot_next, entry_at, last_spot, marks_of, moment, now_after}
+use Rattle.runtime_model.specs.History.{history, outcome_of, step_of, spot_next, entries, entry_at, last_spot, next_place, marks_of, moment, now_after}
 use Rattle.runtime_model.specs.NodeKinds.{kind, kind_by}
 use Rattle.runtime_model.specs.HostOfEvents.{schedule_counts, calls_of, beacon_place}
 use Rattle.runtime_model.specs.Registers.{registers, in_register, values_of, running}
@@ -165,3 +165,31 @@ EndsFollowRuns = (y : System) (es : List PlainEvent) (lost a k : ℕ) (x : ℤ) 
 -- nothing of an earlier stay is found by looking back in another
 abbrev pub StaysAreApart : Type 0 → Type 0
 StaysAreApart X = (v stay : ℕ) (f : Outcome → Option X) (ds : List Step) → ((last_spot ds).stay ≡ stay → ⊥) → recall v stay f ds ≡ None
+
+-- the entries of the Advances of these events, in order
+abbrev pub entries_done : System → List PlainEvent → List Entry
+entries_done y [] = []
+entries_done y (advance lost ∷ es) = entries_done y es ++ entry_at y (spot_next y (history y es)) ∷ []
+entries_done y (request m ∷ es) = entries_done y es
+entries_done y (restart v ∷ es) = entries_done y es
+
+-- the cycles of these hyperperiods in order, and how many ticks they last. The list has the latest first
+abbrev pub cycles_of : System → List Hyperperiod → List Entry
+cycles_of y [] = []
+cycles_of y (h ∷ hs) = cycles_of y hs ++ entries y h.mode
+
+abbrev pub ticks_of : System → List Hyperperiod → ℕ
+ticks_of y [] = 0
+ticks_of y (h ∷ hs) = ticks_of y hs + hyper (plan_at y h.mode).mode
+
+-- the entries that were done are the cycles of the timeline's hyperperiods one after the other, up to the next entry of the last one,
+-- which begins where the others are over
+abbrev pub EntriesAreCycles : Type 0
+EntriesAreCycles = (y : System) → PlansAreRight y → (es : List PlainEvent) → RequestsFit y es →
+    let ds = history y es in
+    let t = timeline_of (marks_of ds) in
+    (entries_done y es ≡ cycles_of y t.before ++ take (next_place ds) (entries y t.last.mode)) × ((last_spot ds).begin ≡ ticks_of y t.before)
+
+-- of a carried slot there is one release
+abbrev pub OneRelease : Type 0
+OneRelease = (nodes : ℕ) (p : Plan) (j i : ℕ) (r : ℤ) → RightPlan nodes p → Carried p j i → IsRelease p j i r → r ≡ release p j i

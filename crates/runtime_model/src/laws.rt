@@ -1,7 +1,7 @@
 //! Laws of the runtime. Each holds for every list of events, or of calls.
 
 ghost use Rattle.std.specs.Prelude.{List, ℤ};
-ghost use Rattle.runtime_model.specs.Laws.{BeaconGap, BeaconsInOrder, EndsFollowRuns, HostsFollowEvents, HostsKeepTime, InputsHold, KindsFollow, NothingIsMissing, OneRunAtATime, RecallLooksBack, RegistersHold, ReleasesFit, RoundsAreBegun, RunsEndBeforeSwitch, SendersAreSynced, SettledNodesKnow, SlotsFollowBeacons, StaysAreApart, TicksRise};
+ghost use Rattle.runtime_model.specs.Laws.{BeaconGap, BeaconsInOrder, EndsFollowRuns, EntriesAreCycles, HostsFollowEvents, HostsKeepTime, InputsHold, KindsFollow, NothingIsMissing, OneRelease, OneRunAtATime, RecallLooksBack, RegistersHold, ReleasesFit, RoundsAreBegun, RunsEndBeforeSwitch, SendersAreSynced, SettledNodesKnow, SlotsFollowBeacons, StaysAreApart, TicksRise};
 
 /// A host that stands for a list of its calls stands for the list with one more, whose condition holds.
 pub fn hosts_keep_time()
@@ -98,4 +98,14 @@ pub fn ends_follow_runs()
 pub fn stays_are_apart()
     ensures values { StaysAreApart ℤ }
     ensures packets { StaysAreApart (List ℤ) }
+{}
+
+/// The entries that were done are the cycles of the timeline, one after the other.
+pub fn entries_are_cycles()
+    ensures { EntriesAreCycles }
+{}
+
+/// A slot has one release.
+pub fn releases_are_one()
+    ensures { OneRelease }
 {}
