@@ -193,3 +193,19 @@ EntriesAreCycles = (y : System) → PlansAreRight y → (es : List PlainEvent) �
 -- of a carried slot there is one release
 abbrev pub OneRelease : Type 0
 OneRelease = (nodes : ℕ) (p : Plan) (j i : ℕ) (r : ℤ) → RightPlan nodes p → Carried p j i → IsRelease p j i r → r ≡ release p j i
+
+-- a start that is performed is that of the next entry, placed, on the task's node, and of the run of its tick
+abbrev pub StartsArePlaced : Type 0
+StartsArePlaced = (y : System) (es : List PlainEvent) (lost v b k : ℕ) (ins : List (Option ℤ)) (x : ℤ) →
+    let s = spot_next y (history y es) in
+    let p = plan_at y s.hyper.mode in
+    let u = (entry_at y s).tick in
+    (step_of y (advance lost) (history y es)).out ≡ started v b k ins x →
+    ((entry_at y s).action ≡ task_starts b) × (placed s.hyper.opening s.hyper.phase (own_start p u b) ≡ true) × (k ≡ run_at p s.turn u b) × (node_of p b ≡ v)
+
+-- what was taken in window k of message i are the values of run k of each of its producers, as their node held them when it was sent
+abbrev pub ValuesAreProduced : Type 0
+ValuesAreProduced = (y : System) (es : List PlainEvent) (v i k : ℕ) (xs : List ℤ) →
+    let ds = history y es in
+    let s = spot_next y ds in
+    recall v s.stay (took v i k) ds ≡ Some xs → (newer : List Step) × (older : List Step) × (ds ≡ newer ++ older) × (held (plan_at y s.hyper.mode) s.stay i k older ≡ Some xs)

@@ -1,7 +1,7 @@
 //! Laws of the runtime. Each holds for every list of events, or of calls.
 
 ghost use Rattle.std.specs.Prelude.{List, ℤ};
-ghost use Rattle.runtime_model.specs.Laws.{BeaconGap, BeaconsInOrder, EndsFollowRuns, EntriesAreCycles, HostsFollowEvents, HostsKeepTime, InputsHold, KindsFollow, NothingIsMissing, OneRelease, OneRunAtATime, RecallLooksBack, RegistersHold, ReleasesFit, RoundsAreBegun, RunsEndBeforeSwitch, SendersAreSynced, SettledNodesKnow, SlotsFollowBeacons, StaysAreApart, TicksRise};
+ghost use Rattle.runtime_model.specs.Laws.{BeaconGap, BeaconsInOrder, EndsFollowRuns, EntriesAreCycles, HostsFollowEvents, HostsKeepTime, InputsHold, KindsFollow, NothingIsMissing, OneRelease, OneRunAtATime, RecallLooksBack, RegistersHold, ReleasesFit, RoundsAreBegun, RunsEndBeforeSwitch, SendersAreSynced, SettledNodesKnow, SlotsFollowBeacons, StartsArePlaced, StaysAreApart, TicksRise, ValuesAreProduced};
 
 /// A host that stands for a list of its calls stands for the list with one more, whose condition holds.
 pub fn hosts_keep_time()
@@ -108,4 +108,14 @@ pub fn entries_are_cycles()
 /// A slot has one release.
 pub fn releases_are_one()
     ensures { OneRelease }
+{}
+
+/// A start that is performed is placed, and of the run of its tick.
+pub fn starts_are_placed()
+    ensures { StartsArePlaced }
+{}
+
+/// What was taken in a window are the values of the producers' runs of the same number.
+pub fn values_are_produced()
+    ensures { ValuesAreProduced }
 {}
