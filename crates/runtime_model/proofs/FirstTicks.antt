@@ -92,6 +92,13 @@ module _ (y : System) (right : AllRight y) where
   now_is (restart v ∷ es) f = refl
   now_is (advance lost ∷ es) f = refl
 
+  -- no tick passes at a request or a restart
+  pub request_now : (es : List PlainEvent) (m : ℕ) → RequestsFit y (request m ∷ es) → now_after y (history y (request m ∷ es)) ≡ now_after y (history y es)
+  request_now es m f = sym (now_is es f.1)
+
+  pub restart_now : (es : List PlainEvent) (v : ℕ) → RequestsFit y es → now_after y (history y (restart v ∷ es)) ≡ now_after y (history y es)
+  restart_now es v f = sym (now_is es f)
+
   -- before the first beacon of a hyperperiod no tick of it has passed
   pub unseen_now : (es : List PlainEvent) → RequestsFit y es → Unseen y (history y es) → now_after y (history y es) ≡ (last_spot (history y es)).begin
   unseen_now es f u =

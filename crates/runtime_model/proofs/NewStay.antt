@@ -1,9 +1,10 @@
 -- What a new stay, a request and a restart leave of where the next entry stands
-use Rattle.std.proofs.Common.{◌≡◌, ℕ, suc, Bool, true, false, cond, List, [], ◌∷◌, ◌++◌, get_or, refl, sym, ◌∙◌, ap, subst, arith}
-use Rattle.std.specs.Prelude.{Option, Some, None}
+use Rattle.std.proofs.Common.{◌≡◌, ℕ, suc, Bool, true, false, cond, not, ◌&&◌, List, [], ◌∷◌, ◌++◌, get_or, refl, sym, ◌∙◌, ap, subst, arith, ⊎_elim}
+use Rattle.std.specs.Prelude.{nat_eq, Option, Some, None}
+use Rattle.std.proofs.lemmas.Bool.{cases_Bool, cond-true, cond-false}
 use Rattle.runtime_model.specs.Timeline.{drains, Hyperperiod, Mark, asked, begins, ended, timeline_of, request_in, follows}
-use Rattle.runtime_model.specs.Outcomes.{PlainEvent, request, restart, Outcome, Spot, Step}
-use Rattle.runtime_model.specs.LookingBack.{recall, settled}
+use Rattle.runtime_model.specs.Outcomes.{PlainEvent, advance, request, restart, Outcome, Spot, Step, is_beacon, hears, restarts, announces}
+use Rattle.runtime_model.specs.LookingBack.{recall, settled, last_beacon}
 use Rattle.runtime_model.specs.System.{System}
 use Rattle.runtime_model.specs.History.{history, step_of, last_spot, marks_of, next_place, turns, arrival, turned, spot_next, entry_at, entries, is_first_beacon}
 use Rattle.runtime_model.specs.Laws.{StaysAreApart}
@@ -11,7 +12,7 @@ use Rattle.runtime_model.proofs.Cycles.{none}
 use Rattle.runtime_model.proofs.Spots.{Alike, alike_marks, alike_both, alike_request, spot_with, Opens}
 use Rattle.runtime_model.proofs.Registers.{recall_stay}
 use Rattle.runtime_model.proofs.HostRounds.{request_begun}
-use Rattle.runtime_model.proofs.Knowing.{settled_steady, phase_stands, steady_with, request_phase, arrival_mode}
+use Rattle.runtime_model.proofs.Knowing.{settled_steady, next_is_plain, phase_stands, steady_with, request_phase, arrival_mode}
 
 -- ---- a new stay
 
@@ -36,6 +37,45 @@ settled_calm y v es e =
     let first = is_first_beacon (entry_at y (arrival y ds)).action in
     let still = steady_with (marks_of ds) false (turns y ds) refl (phase_stands y es ∙ settled_steady y v es e) in
     (alike_marks first (turns y ds) (marks_of ds)).drains ∙ ap drains still
+
+-- the last event of a settled node's world is in the mode and the stay of the last beacon, and so is the next Advance
+pub settled_place : (y : System) (v : ℕ) (es : List PlainEvent) (d : Step) → settled v (history y es) ≡ true → last_beacon (history y es) ≡ Some d →
+    ((last_spot (history y es)).hyper.mode ≡ d.spot.hyper.mode) × ((last_spot (history y es)).stay ≡ d.spot.stay)
+settled_place y v [] d e b = absurd (grind (arith, b))
+settled_place y v (request m ∷ es) d e b = settled_place y v es d e b
+settled_place y v (restart w ∷ es) d e b = settled_place y v es d (not_false (nat_eq w v) (settled v (history y es)) e) b
+  where
+    not_false : (b x : Bool) → cond b false x ≡ true → x ≡ true
+    not_false true x e = absurd cc
+    not_false false x e = e
+settled_place y v (advance lost ∷ es) d e b =
+    let ds = history y es in
+    let g = step_of y (advance lost) ds in
+    ⊎_elim
+    (λ (rings : is_beacon g.out ≡ true).
+    let same : g ≡ d = only g d (sym (cond-true (is_beacon g.out) (Some g) (last_beacon ds) rings) ∙ b) in
+    (ap (λ (z : Step). z.spot.hyper.mode) same, ap (λ (z : Step). z.spot.stay) same))
+    (λ (rings : is_beacon g.out ≡ false).
+    let before = still (restarts v g.out) (is_beacon g.out) (hears v g.out && not (announces g)) (settled v ds) rings e in
+    let w = settled_place y v es d before (sym (cond-false (is_beacon g.out) (Some g) (last_beacon ds) rings) ∙ b) in
+    let n = next_is_plain y v es before in
+    (n.1 ∙ w.0, n.0 ∙ w.1))
+    (cases_Bool (is_beacon g.out))
+  where
+    only : (g d : Step) → Some g ≡ Some d → g ≡ d
+    only g d e = grind (arith, e)
+
+    still : (r b q x : Bool) → b ≡ false → cond r false (cond b q x) ≡ true → x ≡ true
+    still true b q x f e = absurd cc
+    still false true q x f e = absurd cc
+    still false false q x f e = e
+
+pub settled_next : (y : System) (v : ℕ) (es : List PlainEvent) (d : Step) → settled v (history y es) ≡ true → last_beacon (history y es) ≡ Some d →
+    ((spot_next y (history y es)).hyper.mode ≡ d.spot.hyper.mode) × ((spot_next y (history y es)).stay ≡ d.spot.stay)
+settled_next y v es d e b =
+    let w = settled_place y v es d e b in
+    let n = next_is_plain y v es e in
+    (n.1 ∙ w.0, n.0 ∙ w.1)
 
 -- ---- a request and a restart
 

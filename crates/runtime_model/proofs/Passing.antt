@@ -15,7 +15,7 @@ use Rattle.runtime_model.proofs.Modes.{AllRight}
 use Rattle.runtime_model.proofs.Cycles.{none}
 use Rattle.runtime_model.proofs.OutRegisters.{H, in_cycle}
 use Rattle.runtime_model.proofs.Beacons.{Seen, Unseen}
-use Rattle.runtime_model.proofs.FirstTicks.{tick_rises, first_start, last_index, now_is, now_inside, moments_rise, Stays, Turns}
+use Rattle.runtime_model.proofs.FirstTicks.{tick_rises, first_start, last_index, now_is, now_inside, unseen_now, moments_rise, Stays, Turns}
 use Rattle.runtime_model.proofs.NextRound.{rounds_of, round_tick, BeaconStep, Here, Gone, Still, Turning, Anew, next_stands, last_stands}
 use Rattle.runtime_model.proofs.HostRounds.{seen_or_unseen}
 
@@ -299,4 +299,13 @@ module _ (y : System) (right : AllRight y) where
       ⊎_elim
       (λ (q : Seen y ds × (call_of y ds ≡ true) × ((last_spot ds).hyper.begun ≡ true)). absurd (let h = q.0 in let z : true ≡ false = sym h.is_beacon ∙ u h.done.spot.index h.past in cc))
       (λ (q : Unseen y ds × (call_of y ds ≡ false) × ((last_spot ds).hyper.begun ≡ false)). q.2)
+      (seen_or_unseen y right es rf)
+
+  -- in a hyperperiod that has not begun no tick has passed
+  pub unbegun_now : (es : List PlainEvent) (rf : RequestsFit y es) → (last_spot (history y es)).hyper.begun ≡ false → now_after y (history y es) ≡ (last_spot (history y es)).begin
+  unbegun_now es rf b =
+      let ds = history y es in
+      ⊎_elim
+      (λ (q : Seen y ds × (call_of y ds ≡ true) × ((last_spot ds).hyper.begun ≡ true)). absurd (let z : true ≡ false = sym q.2 ∙ b in cc))
+      (λ (q : Unseen y ds × (call_of y ds ≡ false) × ((last_spot ds).hyper.begun ≡ false)). unseen_now y right es rf q.0)
       (seen_or_unseen y right es rf)
