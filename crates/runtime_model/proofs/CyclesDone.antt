@@ -1,16 +1,16 @@
 -- The entries that were done are the cycles of the timeline, one after the other
-use Rattle.std.proofs.Common.{◌≡◌, ℕ, zero, suc, ◌+◌, ◌<◌, ◌≤◌, Bool, true, false, cond, not, List, [], ◌∷◌, ◌++◌, length, get_or, take, refl, sym, ◌∙◌, ap, subst, arith, ◌⊎◌, inl, inr, ⊎_elim}
+use Rattle.std.proofs.Common.{◌≡◌, ℕ, suc, ◌+◌, ◌<◌, ◌≤◌, Bool, true, false, cond, not, List, [], ◌∷◌, ◌++◌, length, take, refl, sym, ◌∙◌, ap, subst, arith, ⊎_elim}
 use Rattle.std.specs.Prelude.{nat_lt}
 use Rattle.std.proofs.Math.Seq.{take-suc}
 use Rattle.std.proofs.lemmas.List.{take_all, append_assoc}
 use Rattle.runtime_model.specs.Timeline.{Hyperperiod, Mark, begins, ended, timeline_of}
 use Rattle.runtime_model.specs.Entries.{Entry}
-use Rattle.runtime_model.specs.Outcomes.{PlainEvent, advance, request, restart, Spot, Step}
-use Rattle.runtime_model.specs.System.{System, plan_at}
+use Rattle.runtime_model.specs.Outcomes.{PlainEvent, advance, request, restart}
+use Rattle.runtime_model.specs.System.{System}
 use Rattle.runtime_model.specs.History.{history, last_spot, next_place, marks_of, turns, arrival, marks_next, spot_next, entries, entry_at, is_first_beacon}
 use Rattle.runtime_model.specs.Laws.{RequestsFit, EntriesAreCycles, entries_done, cycles_of, ticks_of}
 use Rattle.runtime_model.proofs.Cycles.{none}
-use Rattle.runtime_model.proofs.Spots.{Same, stands}
+use Rattle.runtime_model.proofs.Spots.{stands}
 use Rattle.runtime_model.proofs.Modes.{AllRight, all_right}
 use Rattle.runtime_model.proofs.Beacons.{index_now}
 use Rattle.runtime_model.proofs.OutRegisters.{H}
