@@ -35,6 +35,7 @@ use Rattle.sched_model.proofs.PlainPlaces.{no_raw_task}
 use Rattle.sched_model.proofs.TaskNumbers.{few_modes}
 use Rattle.runtime_model.specs.NodeTables.{PlainOwnMessage, PlainOwnTask, is_own, mode_tables, numbers, own_messages, own_rounds, own_tasks}
 use Rattle.runtime_model.specs.Plans.{Plan, no_schedule, node_of, plan_of, plans_of}
+use Rattle.runtime_model.proofs.SetRules.{some_mode}
 use Rattle.runtime_model.proofs.Times.{natural_is}
 use Rattle.node_tables.specs.declared.tables.ModeTable.{ModeTable}
 use Rattle.node_tables.specs.declared.tables.OwnMessage.{OwnMessage}
@@ -42,7 +43,6 @@ use Rattle.node_tables.specs.declared.tables.OwnTask.{OwnTask}
 use Rattle.node_tables.specs.OwnParts.{is_on, message_kept, message_part, message_rows, messages_kept, role_in, rounds_kept, rows_of, tasks_kept}
 use Rattle.node_tables.specs.Parts.{part_in, typed_message, typed_mode, typed_round, typed_task}
 use Rattle.node_tables.proofs.ModeParts.{mode_same}
-use Rattle.node_tables.proofs.Numbering.{some_mode}
 use Rattle.node_tables.proofs.PartRanges as part
 use Rattle.node_tables.proofs.PartRanges.{contained_all, filter_all, filter_length, kept_all, map_all, mode_count, no_plan}
 use Rattle.node_tables.proofs.PlainParts.{kept}

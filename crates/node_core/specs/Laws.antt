@@ -4,11 +4,11 @@ use Rattle.app_graph.specs.declared.mode_set.ModeSet.{ModeSet}
 use Rattle.app_graph.specs.Validation.{KeepsRules}
 use Rattle.sched_model.specs.declared.schedule.Schedule.{Schedule}
 use Rattle.runtime_model.specs.NodeTables.{part_of}
-use Rattle.runtime_model.specs.Plans.{plans_of}
+use Rattle.runtime_model.specs.Plans.{plans_of, AreSchedules}
 use Rattle.beacon_codec.specs.declared.packet.Beacon.{Beacon}
 use Rattle.node_tables.specs.declared.tables.NodeTable.{NodeTable}
 use Rattle.node_tables.specs.declared.tables.OwnMessage.{OwnMessage}
-use Rattle.node_tables.specs.Parts.{AreSchedules, typed_table}
+use Rattle.node_tables.specs.Parts.{typed_table}
 use Rattle.node_core.specs.declared.packet.Packet.{Packet}
 use Rattle.node_core.specs.Lookup.{consumer_place}
 use Rattle.node_core.specs.Registers.{out_of, register_of}
