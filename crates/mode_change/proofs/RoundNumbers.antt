@@ -1,9 +1,8 @@
 -- The numbers of rounds fit a host
-use Rattle.std.proofs.Common.{◌≡◌, ℕ, suc, ◌+◌, ◌*◌, ◌<◌, ◌≤◌, List, [], ◌∷◌, length, get_or, All, None, true, refl, sym, ap, subst, arith}
+use Rattle.std.proofs.Common.{◌≡◌, ℕ, suc, ◌+◌, ◌*◌, ◌≤◌, List, [], ◌∷◌, length, None, true, refl, ap, arith}
 use Rattle.std.specs.List.{AllByRecursion}
-use Rattle.std.proofs.lemmas.List.{get_or-map, length-map}
-use Rattle.std.proofs.lemmas.List.Elements.{All-from_get_or, All-from_recursion, recursion_from_All}
-use Rattle.app_graph.specs.declared.mode_set.ModeSet.{ModeSet}
+use Rattle.std.proofs.lemmas.List.{length-map}
+use Rattle.std.proofs.lemmas.List.Elements.{All-from_recursion, recursion_from_All}
 use Rattle.sched_model.specs.declared.schedule.Schedule.{Schedule}
 use Rattle.runtime_model.specs.Timeline.{steady}
 use Rattle.runtime_model.specs.Plans.{FewRounds, round_counts, first_rounds}

@@ -203,7 +203,7 @@ module _ (set : ModeSet) (i : ℕ) (keeps : KeepsRules set) (l : i < length set.
       (subst (λ (xs : List OwnTask). AllByRecursion fits xs) (sym (kept typed_task own_task on (below (length m.tasks))))
       (kept_all fits on (λ a. typed_task (own_task a)) (length m.tasks) (λ a h e. task_number a h)))
 
-  tasks_ascend : AllPairs IsTaskBefore (map typed_task (own_tasks p v))
+  pub tasks_ascend : AllPairs IsTaskBefore (map typed_task (own_tasks p v))
   tasks_ascend =
       let nums = part.nums set i keeps l few s right v in
       pairs_map IsTaskBefore typed_task (own_tasks p v) (pairs_map (λ a b. IsTaskBefore (typed_task a) (typed_task b)) own_task (filter on (below (length m.tasks)))
@@ -235,7 +235,7 @@ module _ (set : ModeSet) (i : ℕ) (keeps : KeepsRules set) (l : i < length set.
       (subst (λ (xs : List OwnMessage). AllByRecursion MessageFits xs) (sym (kept typed_message own_message (is_own p v) (below (length m.messages))))
       (kept_all MessageFits (is_own p v) (λ j. typed_message (own_message j)) (length m.messages) (λ j h e. message_fits j h)))
 
-  messages_ascend : AllPairs IsBefore (map typed_message (own_messages p v))
+  pub messages_ascend : AllPairs IsBefore (map typed_message (own_messages p v))
   messages_ascend =
       let nums = part.nums set i keeps l few s right v in
       pairs_map IsBefore typed_message (own_messages p v) (pairs_map (λ a b. IsBefore (typed_message a) (typed_message b)) own_message (filter (is_own p v) (below (length m.messages)))
