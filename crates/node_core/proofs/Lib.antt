@@ -7,3 +7,4 @@ pub mod SearchLemmas
 pub mod KeptLimits
 pub mod RegisterRules
 pub mod PartLimits
+pub mod PartFinds

@@ -13,9 +13,9 @@ use Rattle.runtime_model.specs.Inputs.{inputs}
 use Rattle.runtime_model.specs.Laws.{InputsHold}
 use Rattle.runtime_model.specs.LookingBack.{recall, or_else, runs, synced}
 use Rattle.runtime_model.specs.Outcomes.{PlainEvent, advance, request, restart, Spot, Step, Outcome, beaconed, sent, silent, started, off, finished, void, requested, restarted, is_beacon, restarts, begun_run, took}
-use Rattle.runtime_model.specs.Packets.{sender_of, packet, held, takes_on, reached}
+use Rattle.runtime_model.specs.Packets.{packet, held, takes_on, reached}
 use Rattle.runtime_model.specs.Placement.{placed, own_slot, own_start, window_at, run_at, ends_run, ending_run_at}
-use Rattle.runtime_model.specs.Plans.{Plan, offset, node_of, RightPlan}
+use Rattle.runtime_model.specs.Plans.{Plan, offset, node_of, RightPlan, sender_of}
 use Rattle.runtime_model.specs.Registers.{last_in, flat, values_of}
 use Rattle.runtime_model.specs.System.{System, plan_at}
 use Rattle.runtime_model.specs.Timeline.{drains}

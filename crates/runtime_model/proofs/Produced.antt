@@ -3,13 +3,13 @@ use Rattle.std.proofs.Common.{◌≡◌, ℕ, Bool, true, false, cond, ◌&&◌,
 use Rattle.std.specs.Prelude.{nat_eq, filter, Option, Some, None}
 use Rattle.std.proofs.lemmas.Bool.{eqb-true, and_parts}
 use Rattle.sched_model.specs.Numbers.{below, has}
-use Rattle.runtime_model.specs.Plans.{Plan, node_of}
+use Rattle.runtime_model.specs.Plans.{Plan, node_of, sender_of}
 use Rattle.runtime_model.specs.Entries.{Action, task_ends, beacon, slot, task_starts}
 use Rattle.runtime_model.specs.Placement.{placed, own_slot, own_start, ends_run, ending_run_at, window_at}
 use Rattle.runtime_model.specs.Outcomes.{PlainEvent, advance, request, restart, Spot, Step, begun_run, took}
 use Rattle.runtime_model.specs.LookingBack.{synced, runs, recall, or_else}
 use Rattle.runtime_model.specs.System.{System, plan_at}
-use Rattle.runtime_model.specs.Packets.{sender_of, held, packet, takes}
+use Rattle.runtime_model.specs.Packets.{held, packet, takes}
 use Rattle.runtime_model.specs.History.{history, step_of, spot_next, last_spot, entry_at, performed, finished_or_not, sent_or_not, start_or_not}
 use Rattle.runtime_model.specs.Laws.{StartsArePlaced, ValuesAreProduced}
 use Rattle.runtime_model.proofs.Spots.{moves, stands}

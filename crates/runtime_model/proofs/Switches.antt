@@ -8,13 +8,13 @@ use Rattle.sched_model.specs.PlainMode.{hyper, task_at}
 use Rattle.sched_model.specs.Rounds.{round_start}
 use Rattle.sched_model.proofs.Hyperperiods.{hyper_some}
 use Rattle.runtime_model.specs.Timeline.{PlainPhase, drains}
-use Rattle.runtime_model.specs.Plans.{Plan, node_of, offset}
+use Rattle.runtime_model.specs.Plans.{Plan, node_of, offset, sender_of}
 use Rattle.runtime_model.specs.Entries.{Action, task_ends, beacon, slot, task_starts}
 use Rattle.runtime_model.specs.Placement.{placed, own_start, own_slot, run_at, ends_run, ending_run_at, window_at}
 use Rattle.runtime_model.specs.Outcomes.{advance, request, restart, Spot, Step, Outcome, sent, started, begun_run}
 use Rattle.runtime_model.specs.LookingBack.{synced, runs, recall}
 use Rattle.runtime_model.specs.System.{System, plan_at}
-use Rattle.runtime_model.specs.Packets.{packet, sender_of, held}
+use Rattle.runtime_model.specs.Packets.{packet, held}
 use Rattle.runtime_model.specs.History.{history, spot_next, entries, entry_at, performed, finished_or_not, sent_or_not, start_or_not}
 use Rattle.runtime_model.specs.Laws.{RunsEndBeforeSwitch, ReleasesFit, SendersAreSynced, OneRelease}
 use Rattle.runtime_model.proofs.Cycles.{has_beacon, entry_right, RightAt}

@@ -4,13 +4,13 @@ use Rattle.std.specs.List.{flat_map}
 use Rattle.sched_model.specs.Numbers.{below}
 use Rattle.sched_model.specs.PlainMode.{hyper, task_at}
 use Rattle.runtime_model.specs.Timeline.{steady, Hyperperiod, Mark, asked, begins, ended, timeline_of, fresh}
-use Rattle.runtime_model.specs.Plans.{Plan, first_round, node_of}
+use Rattle.runtime_model.specs.Plans.{Plan, first_round, node_of, sender_of}
 use Rattle.runtime_model.specs.Entries.{Entry, Action, task_ends, beacon, slot, task_starts, cycle}
 use Rattle.runtime_model.specs.Placement.{placed, own_start, run_at, ends_run, ending_run_at, window_at}
 use Rattle.runtime_model.specs.Outcomes.{PlainEvent, advance, request, restart, PlainBeacon, beacon_of, Spot, Outcome, beaconed, sent, silent, started, off, finished, void, requested, restarted, Step, begun_run}
 use Rattle.runtime_model.specs.LookingBack.{runs, recall}
 use Rattle.runtime_model.specs.System.{System, plan_at}
-use Rattle.runtime_model.specs.Packets.{reached, sender_of, packet, takes}
+use Rattle.runtime_model.specs.Packets.{reached, packet, takes}
 use Rattle.runtime_model.specs.Inputs.{inputs}
 
 -- ---- what an entry does

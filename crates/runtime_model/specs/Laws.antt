@@ -1,14 +1,17 @@
 -- Laws of the runtime, over every list of events
 use Rattle.std.specs.Prelude.{◌≡◌, ℕ, suc, ◌+◌, ◌*◌, ◌<◌, ◌≤◌, ◌↔◌, ◌⊎◌, true, false, List, [], ◌∷◌, ◌++◌, length, take, Contains, Option, Some, None, ℤ}
+use Rattle.app_graph.specs.declared.mode_set.ModeSet.{ModeSet}
+use Rattle.app_graph.specs.Validation.{KeepsRules}
+use Rattle.sched_model.specs.declared.schedule.Schedule.{Schedule}
 use Rattle.sched_model.specs.PlainMode.{hyper, task_at, message_at}
 use Rattle.runtime_model.specs.Timeline.{steady, drains, Hyperperiod, timeline_of}
 use Rattle.runtime_model.specs.HostCalls.{HostCall, AllMay, call_state, host_after, after_call}
-use Rattle.runtime_model.specs.Plans.{Plan, RightPlan, Carried, node_of, offset}
+use Rattle.runtime_model.specs.Plans.{Plan, RightPlan, RightPlans, AreSchedules, FewRounds, Carried, node_of, offset}
 use Rattle.runtime_model.specs.Entries.{Entry, slot, task_ends, task_starts}
 use Rattle.runtime_model.specs.Placement.{release, IsRelease, placed, own_slot, own_start, window_at, run_at}
 use Rattle.runtime_model.specs.Outcomes.{PlainEvent, advance, request, restart, Outcome, Step, is_beacon, took, sent, started, finished}
 use Rattle.runtime_model.specs.LookingBack.{LookedBack, synced, settled, coasts, recall, last_beacon}
-use Rattle.runtime_model.specs.System.{System, plan_at}
+use Rattle.runtime_model.specs.System.{System, plan_at, system_of}
 use Rattle.runtime_model.specs.Packets.{held}
 use Rattle.runtime_model.specs.History.{history, outcome_of, step_of, spot_next, entries, entry_at, last_spot, next_place, marks_of, moment, now_after}
 use Rattle.runtime_model.specs.NodeKinds.{kind, kind_by}
@@ -46,6 +49,18 @@ InputsHold = (y : System) (es : List PlainEvent) (b i : ℕ) →
 -- there is a mode, and each one has a right plan
 abbrev pub PlansAreRight : System → Type 0
 PlansAreRight y = (1 ≤ length y.plans) × ((mode : ℕ) → mode < length y.plans → RightPlan y.nodes (plan_at y mode))
+
+-- What a set has with right schedules: right plans, its host among its nodes, few rounds, and right plans of the system that they make,
+-- whatever the bodies answer
+pub record HasRightPlans (set : ModeSet) (schedules : List Schedule) : Type 0 where
+  pub plans : RightPlans set schedules
+  pub host : set.host < length set.nodes
+  pub few : FewRounds schedules
+  pub system : (answers : List Step → ℕ → List (Option ℤ) → ℤ) → PlansAreRight (system_of set schedules answers)
+
+-- a set that keeps the rules has right plans with each right schedule of its modes
+abbrev pub KeptSetsHaveRightPlans : Type 0
+KeptSetsHaveRightPlans = (set : ModeSet) (schedules : List Schedule) → KeepsRules set → AreSchedules set schedules → HasRightPlans set schedules
 
 -- each request of these events names a mode of the system
 abbrev pub RequestsFit : System → List PlainEvent → Type 0

@@ -1,7 +1,12 @@
 //! Laws of the runtime. Each holds for every list of events, or of calls.
 
 ghost use Rattle.std.specs.Prelude.{List, ℤ};
-ghost use Rattle.runtime_model.specs.Laws.{BeaconGap, BeaconsInOrder, EndsFollowRuns, EntriesAreCycles, HostsFollowEvents, HostsKeepTime, InputsHold, KindsFollow, NothingIsMissing, OneRelease, OneRunAtATime, RecallLooksBack, RegistersHold, ReleasesFit, RoundsAreBegun, RunsEndBeforeSwitch, SendersAreSynced, SettledNodesKnow, SlotsFollowBeacons, StartsArePlaced, StaysAreApart, TicksRise, ValuesAreProduced};
+ghost use Rattle.runtime_model.specs.Laws.{BeaconGap, BeaconsInOrder, EndsFollowRuns, EntriesAreCycles, HostsFollowEvents, HostsKeepTime, InputsHold, KeptSetsHaveRightPlans, KindsFollow, NothingIsMissing, OneRelease, OneRunAtATime, RecallLooksBack, RegistersHold, ReleasesFit, RoundsAreBegun, RunsEndBeforeSwitch, SendersAreSynced, SettledNodesKnow, SlotsFollowBeacons, StartsArePlaced, StaysAreApart, TicksRise, ValuesAreProduced};
+
+/// A set that keeps the rules has right plans with each right schedule of its modes.
+pub fn kept_sets_have_right_plans()
+    ensures { KeptSetsHaveRightPlans }
+{}
 
 /// A host that stands for a list of its calls stands for the list with one more, whose condition holds.
 pub fn hosts_keep_time()
