@@ -8,3 +8,4 @@ pub mod KeptLimits
 pub mod RegisterRules
 pub mod PartLimits
 pub mod PartFinds
+pub mod NodePasses
