@@ -1,14 +1,14 @@
 -- A node that stands where the events say may pass the ticks before the next Advance, and then miss the beacon there
-use Rattle.std.proofs.Common.{◌≡◌, ℕ, suc, ◌+◌, ◌<◌, ◌≤◌, Bool, true, false, cond, not, ◌&&◌, List, length, refl, sym, ◌∙◌, ap, subst, arith, ◌⊎◌, inl, inr, ⊎_elim, ℤ, pos, ◌+ℤ◌, ◌-ℤ◌, ◌≤ℤ◌, Less, Equal, Greater}
+use Rattle.std.proofs.Common.{◌≡◌, ℕ, suc, ◌+◌, ◌-◌, ◌<◌, ◌≤◌, Bool, true, false, cond, not, ◌&&◌, List, ◌∷◌, length, refl, sym, ◌∙◌, ap, subst, arith, ◌⊎◌, inl, inr, ⊎_elim, ℤ, pos, ◌+ℤ◌, ◌-ℤ◌, ◌≤ℤ◌, Less, Equal, Greater}
 use Rattle.std.specs.Prelude.{nat_eq, nat_lt, nat_le, int_le, int_lt}
 use Rattle.std.specs.Ordering.{is_eq, int_eq}
 use Rattle.std.proofs.lemmas.Int.{ints}
-use Rattle.std.proofs.lemmas.Bool.{cases_lt, cases_Bool, cond-true, cond-false}
+use Rattle.std.proofs.lemmas.Bool.{cases_lt, cases_Bool, cond-true, cond-false, eq-eqb}
 use borrow.Author.Differences.{same_in}
 use Rattle.runtime_model.specs.Entries.{beacon}
-use Rattle.runtime_model.specs.Outcomes.{Step}
+use Rattle.runtime_model.specs.Outcomes.{advance, Step}
 use Rattle.runtime_model.specs.System.{System, plan_at}
-use Rattle.runtime_model.specs.History.{spot_next, entry_at, moment}
+use Rattle.runtime_model.specs.History.{step_of, spot_next, entry_at, moment}
 use Rattle.runtime_model.proofs.OutRegisters.{H}
 use Rattle.runtime_model.proofs.Beacons.{start_is}
 use Rattle.runtime_model.proofs.FirstTicks.{Stays, Turns}
@@ -19,7 +19,7 @@ use Rattle.node_tables.specs.declared.tables.ModeTable.{ModeTable}
 use Rattle.node_core.specs.Lookup.{mode_at, round_at}
 use Rattle.node_core.specs.PartLookups.{PartLooksUp}
 use Rattle.node_core.specs.Running.{RunningNode, mode_of}
-use Rattle.node_core.specs.Rules.{in_last_round, next_round, next_start, has_turned, passed, turned}
+use Rattle.node_core.specs.Rules.{in_last_round, next_round, next_start, has_turned, passed, turned, coasted}
 use Rattle.node_core.specs.Conditions.{MayPass, MayMiss}
 
 -- the start of the next round, by a node's mode, round, tick and whether it is at its beacon
@@ -168,3 +168,31 @@ module _ (y : System) (v : ℕ) (d : Step) (j : ℕ) (b : BeaconStep y d j) wher
         let starts : 0 ≡ next_tick y md j 0 false = sym zero_tick ∙ q.1 ∙ ap (λ (z : ℕ). next_tick y md j z (nat_eq (moment_next y ds) (moment y d))) zero_tick ∙ ap (next_tick y md j 0) (ps.past_beacon tr) in
         subst (λ (z : RunningNode). MayMiss z × (next_round z ≡ i)) (sym (passes_over tr))
         (ap (λ (z : ℕ). pos z) starts ∙ sym (next_start_is n' 0 false at.part at.mode at.round refl refl), next_round_is n' at.part at.mode at.round ∙ sym q.0)
+
+    -- after the ticks it stands where the events with the next Advance say
+    pub stands_on : (lost : ℕ) → Stays y ds ⊎ Turns y ds → StandsAt y v (step_of y (advance lost) ds ∷ ds) d j (passed n (pos (ticks_next y ds)))
+    stands_on lost (inl st) = subst (StandsAt y v (step_of y (advance lost) ds ∷ ds) d j) (sym (passes_on st))
+        (record { part = at.part; mode = at.mode; round = at.round; tick = ap (λ (z : ℕ). pos z) (less_begin (spot_next y ds).begin (entry_at y (spot_next y ds)).tick); at_beacon = refl })
+      where
+        less_begin : (b t : ℕ) → t ≡ b + t - b
+        less_begin b t = omega arith
+    stands_on lost (inr tr) = subst (StandsAt y v (step_of y (advance lost) ds ∷ ds) d j) (sym (passes_over tr))
+        (record { part = at.part; mode = at.mode; round = at.round; tick = ap (λ (z : ℕ). pos z) (at_begin (spot_next y ds).begin (entry_at y (spot_next y ds)).tick (ps.turns tr).1); at_beacon = sym (ps.past_beacon tr) })
+      where
+        at_begin : (b t : ℕ) → t ≡ 0 → 0 ≡ b + t - b
+        at_begin b t z = omega (arith, z)
+
+    -- and where it coasts past a beacon of its mode, that one is its last beacon
+    pub coasts_on : (lost i : ℕ) → (entry_at y (spot_next y ds)).action ≡ beacon i → (spot_next y ds).hyper.mode ≡ md → Stays y ds ⊎ Turns y ds →
+        let g = step_of y (advance lost) ds in StandsAt y v (g ∷ ds) g i (coasted (passed n (pos (ticks_next y ds))))
+    coasts_on lost i act same where_to =
+        let g = step_of y (advance lost) ds in
+        let s = stands_on lost where_to in
+        let n' = passed n (pos (ticks_next y ds)) in
+        record {
+          part = subst (λ (m : ℕ). PartLooksUp y.plans v m (plan_at y m) n'.table) (sym same) s.part;
+          mode = s.mode ∙ sym same;
+          round = ⊎_elim (λ (st : Stays y ds). (may_miss i act st).1) (λ (tr : Turns y ds). (may_miss_anew i act tr).1) where_to;
+          tick = s.tick;
+          at_beacon = sym (eq-eqb (moment y g) (moment y g) refl);
+        }
