@@ -1,9 +1,9 @@
 -- A node that stands where the events say may pass the ticks before the next Advance, and then miss the beacon there
-use Rattle.std.proofs.Common.{◌≡◌, ℕ, suc, ◌+◌, ◌-◌, ◌<◌, ◌≤◌, Bool, true, false, cond, not, ◌&&◌, List, ◌∷◌, length, refl, sym, ◌∙◌, ap, subst, arith, ◌⊎◌, inl, inr, ⊎_elim, ℤ, pos, ◌+ℤ◌, ◌-ℤ◌, ◌≤ℤ◌, Less, Equal, Greater}
+use Rattle.std.proofs.Common.{◌≡◌, ℕ, suc, ◌+◌, ◌-◌, ◌<◌, ◌≤◌, Bool, true, false, cond, not, ◌&&◌, List, ◌∷◌, length, refl, sym, ◌∙◌, ap, subst, arith, ◌⊎◌, inl, inr, ⊎_elim, ℤ, pos, ◌+ℤ◌, ◌-ℤ◌, Less, Equal, Greater}
 use Rattle.std.specs.Prelude.{nat_eq, nat_lt, nat_le, int_le, int_lt}
 use Rattle.std.specs.Ordering.{is_eq, int_eq}
 use Rattle.std.proofs.lemmas.Int.{ints}
-use Rattle.std.proofs.lemmas.Bool.{cases_lt, cases_Bool, cond-true, cond-false, eq-eqb}
+use Rattle.std.proofs.lemmas.Bool.{cases_lt, cond-true, cond-false, eq-eqb}
 use borrow.Author.Differences.{same_in}
 use Rattle.runtime_model.specs.Entries.{beacon}
 use Rattle.runtime_model.specs.Outcomes.{advance, Step}
@@ -19,7 +19,7 @@ use Rattle.node_tables.specs.declared.tables.ModeTable.{ModeTable}
 use Rattle.node_core.specs.Lookup.{mode_at, round_at}
 use Rattle.node_core.specs.PartLookups.{PartLooksUp}
 use Rattle.node_core.specs.Running.{RunningNode, mode_of}
-use Rattle.node_core.specs.Rules.{in_last_round, next_round, next_start, has_turned, passed, turned, coasted}
+use Rattle.node_core.specs.Rules.{next_round, next_start, passed, turned, coasted}
 use Rattle.node_core.specs.Conditions.{MayPass, MayMiss}
 
 -- the start of the next round, by a node's mode, round, tick and whether it is at its beacon
