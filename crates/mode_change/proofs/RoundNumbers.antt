@@ -1,15 +1,12 @@
 -- The numbers of rounds fit a host
-use Rattle.std.proofs.Common.{◌≡◌, ℕ, suc, ◌+◌, ◌*◌, ◌<◌, ◌≤◌, List, [], ◌∷◌, length, get_or, All, None, true, refl, sym, ap, subst, arith}
+use Rattle.std.proofs.Common.{◌≡◌, ℕ, suc, ◌+◌, ◌*◌, ◌≤◌, List, [], ◌∷◌, length, None, true, refl, ap, arith}
 use Rattle.std.specs.List.{AllByRecursion}
-use Rattle.std.proofs.lemmas.List.{get_or-map, length-map}
-use Rattle.std.proofs.lemmas.List.Elements.{All-from_get_or, All-from_recursion, recursion_from_All}
-use Rattle.app_graph.specs.declared.mode_set.ModeSet.{ModeSet}
+use Rattle.std.proofs.lemmas.List.{length-map}
+use Rattle.std.proofs.lemmas.List.Elements.{All-from_recursion, recursion_from_All}
 use Rattle.sched_model.specs.declared.schedule.Schedule.{Schedule}
 use Rattle.runtime_model.specs.Timeline.{steady}
-use Rattle.runtime_model.specs.Plans.{RightPlans, plan_of, no_schedule, round_counts, first_rounds}
-use Rattle.runtime_model.proofs.Times.{rounds_fit}
+use Rattle.runtime_model.specs.Plans.{FewRounds, round_counts, first_rounds}
 use Rattle.mode_change.specs.HostSeen.{HostFits}
-use Rattle.mode_change.specs.HostStands.{FewRounds, RightPlansHaveFewRounds}
 
 -- the number of rounds of a schedule
 abbrev count_of : Schedule → ℕ
@@ -17,15 +14,6 @@ count_of s = length s.starts
 
 pub counts_length : (schedules : List Schedule) → length (round_counts schedules) ≡ length schedules
 counts_length schedules = length-map schedules count_of
-
--- right plans have at most 256 rounds each
-pub counts_fit : (set : ModeSet) (schedules : List Schedule) → RightPlans set schedules → All (λ c. c ≤ 256) (round_counts schedules)
-counts_fit set schedules ok = All-from_get_or (λ c. c ≤ 256) (round_counts schedules) 0 (λ i l.
-    let in_schedules : i < length schedules = omega (arith, l, counts_length schedules) in
-    let in_set : i < length set.modes = omega (arith, in_schedules, ok.one_each) in
-    let is = get_or-map count_of schedules i no_schedule 0 in_schedules in
-    let few : count_of (get_or schedules i no_schedule) ≤ 256 = omega (arith, rounds_fit (length set.nodes) (plan_of set schedules i) (ok.right i in_set), ok.rounds i in_set) in
-    subst (λ (c : ℕ). c ≤ 256) (sym is) few)
 
 -- the first rounds of at most 8 modes of at most 256 rounds each
 firsts_below : (n : ℕ) (counts : List ℕ) → AllByRecursion (λ c. c ≤ 256) counts → n + 256 * length counts ≤ 2304 → AllByRecursion (λ r. r ≤ 2048) (first_rounds n counts)
@@ -52,10 +40,3 @@ made_fits schedules ok =
       rounds_fit = ok.rounds;
       firsts_fit = All-from_recursion (λ r. r ≤ 2048) (first_rounds 1 (round_counts schedules)) (firsts_below 1 (round_counts schedules) (recursion_from_All (λ c. c ≤ 256) (round_counts schedules) ok.rounds) (omega (arith, n, ok.modes)));
     }
-
-pub right_plans_have_few_rounds : RightPlansHaveFewRounds
-right_plans_have_few_rounds set schedules ok = record {
-  some = omega (arith, ok.one_each, ok.some);
-  modes = omega (arith, ok.one_each, ok.most);
-  rounds = counts_fit set schedules ok;
-}

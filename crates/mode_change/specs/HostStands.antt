@@ -1,20 +1,9 @@
 -- A host that stands for a list of its calls, the latest first
-use Rattle.std.specs.Prelude.{◌≡◌, ◌≤◌, List, ◌∷◌, All, length}
+use Rattle.std.specs.Prelude.{◌≡◌, List, ◌∷◌}
 use Rattle.sched_model.specs.declared.schedule.Schedule.{Schedule}
 use Rattle.runtime_model.specs.HostCalls.{HostCall, host_after, AllMay}
-use Rattle.runtime_model.specs.Plans.{RightPlans, round_counts, first_rounds}
-use Rattle.app_graph.specs.declared.mode_set.ModeSet.{ModeSet}
+use Rattle.runtime_model.specs.Plans.{round_counts, first_rounds}
 use Rattle.mode_change.specs.HostSeen.{HostSeen}
-
--- schedules that a host can serve: of one to eight modes, with at most 256 rounds each
-pub record FewRounds (schedules : List Schedule) : Type 0 where
-  pub some : 1 ≤ length schedules
-  pub modes : length schedules ≤ 8
-  pub rounds : All (λ count. count ≤ 256) (round_counts schedules)
-
--- the right schedules of a set within its limits are such
-abbrev pub RightPlansHaveFewRounds : Type 0
-RightPlansHaveFewRounds = (set : ModeSet) (schedules : List Schedule) → RightPlans set schedules → FewRounds schedules
 
 -- its state is that of the timeline after the calls, each of which met its condition, and its numbers of rounds are those of the schedules
 pub record HostStands (schedules : List Schedule) (s : HostSeen) (calls : List HostCall) : Type 0 where

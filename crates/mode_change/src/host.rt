@@ -2,9 +2,9 @@
 
 ghost use Rattle.std.specs.Prelude.{◌≡◌, ◌<◌, ◌≤◌, All, IfOk, IsTrue, [], false, length, true};
 ghost use Rattle.runtime_model.specs.HostCalls.{end_round_call, next_beacon_call, request_call};
-ghost use Rattle.runtime_model.specs.Plans.{first_rounds, round_counts};
+ghost use Rattle.runtime_model.specs.Plans.{FewRounds, first_rounds, round_counts};
 ghost use Rattle.mode_change.specs.HostSeen.{host_beacon, plain_beacon, with_call};
-ghost use Rattle.mode_change.specs.HostStands.{FewRounds, GoesOn, HostStands};
+ghost use Rattle.mode_change.specs.HostStands.{GoesOn, HostStands};
 ghost use Rattle.mode_change.specs.Phases.{plain_phase};
 
 use crate::phase::{Phase, decided, is_draining, named_mode};
@@ -41,7 +41,7 @@ impl Model for Host {
 
 impl Host {
     /// The host before the first beacon, in mode 0 and its opening hyperperiod. `plans` has the schedule of each mode of `set`;
-    /// right plans have few enough rounds, as the law `right_plans_have_few_rounds` says.
+    /// the right schedules of a set that keeps the rules have few enough rounds, as the law `kept_sets_have_right_plans` says.
     pub fn make(alloc: Global, set: &ModeSet, plans: &[Schedule]) -> Result<Self, AllocError>
         requires { FewRounds plans.now }
         ensures stands { IfOk result (λ host. HostStands plans.now host []) }

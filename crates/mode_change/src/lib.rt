@@ -2,7 +2,6 @@
 #![tactic(auto)]
 
 mod host;
-pub mod laws;
 mod phase;
 #[cfg(test)]
 mod tests;

@@ -1,7 +1,7 @@
 //! Beacons over a change of mode.
 
 ghost use Rattle.std.specs.Prelude.{◌≡◌, IfOk, false, length};
-ghost use Rattle.mode_change.specs.HostStands.{FewRounds};
+ghost use Rattle.runtime_model.specs.Plans.{FewRounds};
 
 use crate::{Host, Phase};
 use app_graph::{ListOf, ModeSet};

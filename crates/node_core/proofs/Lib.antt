@@ -7,3 +7,5 @@ pub mod SearchLemmas
 pub mod KeptLimits
 pub mod RegisterRules
 pub mod PartLimits
+pub mod PartFinds
+pub mod NodePasses

@@ -35,6 +35,7 @@ use Rattle.sched_model.proofs.PlainPlaces.{no_raw_task}
 use Rattle.sched_model.proofs.TaskNumbers.{few_modes}
 use Rattle.runtime_model.specs.NodeTables.{PlainOwnMessage, PlainOwnTask, is_own, mode_tables, numbers, own_messages, own_rounds, own_tasks}
 use Rattle.runtime_model.specs.Plans.{Plan, no_schedule, node_of, plan_of, plans_of}
+use Rattle.runtime_model.proofs.SetRules.{some_mode}
 use Rattle.runtime_model.proofs.Times.{natural_is}
 use Rattle.node_tables.specs.declared.tables.ModeTable.{ModeTable}
 use Rattle.node_tables.specs.declared.tables.OwnMessage.{OwnMessage}
@@ -42,7 +43,6 @@ use Rattle.node_tables.specs.declared.tables.OwnTask.{OwnTask}
 use Rattle.node_tables.specs.OwnParts.{is_on, message_kept, message_part, message_rows, messages_kept, role_in, rounds_kept, rows_of, tasks_kept}
 use Rattle.node_tables.specs.Parts.{part_in, typed_message, typed_mode, typed_round, typed_task}
 use Rattle.node_tables.proofs.ModeParts.{mode_same}
-use Rattle.node_tables.proofs.Numbering.{some_mode}
 use Rattle.node_tables.proofs.PartRanges as part
 use Rattle.node_tables.proofs.PartRanges.{contained_all, filter_all, filter_length, kept_all, map_all, mode_count, no_plan}
 use Rattle.node_tables.proofs.PlainParts.{kept}
@@ -203,7 +203,7 @@ module _ (set : ModeSet) (i : ℕ) (keeps : KeepsRules set) (l : i < length set.
       (subst (λ (xs : List OwnTask). AllByRecursion fits xs) (sym (kept typed_task own_task on (below (length m.tasks))))
       (kept_all fits on (λ a. typed_task (own_task a)) (length m.tasks) (λ a h e. task_number a h)))
 
-  tasks_ascend : AllPairs IsTaskBefore (map typed_task (own_tasks p v))
+  pub tasks_ascend : AllPairs IsTaskBefore (map typed_task (own_tasks p v))
   tasks_ascend =
       let nums = part.nums set i keeps l few s right v in
       pairs_map IsTaskBefore typed_task (own_tasks p v) (pairs_map (λ a b. IsTaskBefore (typed_task a) (typed_task b)) own_task (filter on (below (length m.tasks)))
@@ -235,7 +235,7 @@ module _ (set : ModeSet) (i : ℕ) (keeps : KeepsRules set) (l : i < length set.
       (subst (λ (xs : List OwnMessage). AllByRecursion MessageFits xs) (sym (kept typed_message own_message (is_own p v) (below (length m.messages))))
       (kept_all MessageFits (is_own p v) (λ j. typed_message (own_message j)) (length m.messages) (λ j h e. message_fits j h)))
 
-  messages_ascend : AllPairs IsBefore (map typed_message (own_messages p v))
+  pub messages_ascend : AllPairs IsBefore (map typed_message (own_messages p v))
   messages_ascend =
       let nums = part.nums set i keeps l few s right v in
       pairs_map IsBefore typed_message (own_messages p v) (pairs_map (λ a b. IsBefore (typed_message a) (typed_message b)) own_message (filter (is_own p v) (below (length m.messages)))

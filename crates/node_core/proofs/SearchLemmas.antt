@@ -38,7 +38,7 @@ each_is_found key (m ∷ xs) up =
 
 -- ---- the search
 
-none_among : {X : Type 0} (key : X → ℕ) (number : ℕ) (xs : List X) → AllByRecursion (λ x. key x ≢ number) xs → find (λ y. nat_eq (key y) number) xs ≡ None
+pub none_among : {X : Type 0} (key : X → ℕ) (number : ℕ) (xs : List X) → AllByRecursion (λ x. key x ≢ number) xs → find (λ y. nat_eq (key y) number) xs ≡ None
 none_among key number [] differ = refl
 none_among key number (x ∷ xs) differ =
     let test : nat_eq (key x) number ≡ false = grind (arith, nat_tests, differ.0) in

@@ -8,7 +8,7 @@ use Rattle.node_tables.specs.declared.tables.OwnSlot.{OwnSlot}
 use Rattle.node_core.specs.declared.packet.Packet.{Packet}
 use Rattle.node_core.specs.Lookup.{mode_of_round, own_slot, own_message, own_task}
 use Rattle.node_core.specs.Running.{RunningNode, mode_of, round_of}
-use Rattle.node_core.specs.Rules.{next_start}
+use Rattle.node_core.specs.Rules.{next_start, starts}
 
 -- a node may hear a beacon: its round is in the table, a trigger names another mode than the round's, and trigger and opening are not both set
 pub record MayHear (t : NodeTable) (b : Beacon) : Type 0 where
@@ -55,7 +55,7 @@ abbrev pub IsOwnAndDue : ℤ → Option OwnTask → Type 0
 IsOwnAndDue tick None = ⊥
 IsOwnAndDue tick (Some t) = IsDue tick t
 
--- a task may start: it is one of the node's in its mode and due, and no run is in progress
+-- a task may start: it is one of the node's in its mode and due, and where the start is placed, no run is in progress
 pub record MayStart (n : RunningNode) (task : ℕ) : Type 0 where
   pub due : IsOwnAndDue n.tick (own_task (mode_of n).tasks task)
-  pub free : n.registers.run ≡ None
+  pub free : starts n task ≡ true → n.registers.run ≡ None

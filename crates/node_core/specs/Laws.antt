@@ -1,14 +1,15 @@
 -- Laws of the rules of nodes
-use Rattle.std.specs.Prelude.{◌≡◌, ℕ, ◌<◌, Bool, true, cond, ◌&&◌, nat_eq, List, length, All, Some, None, is_some, ℤ}
+use Rattle.std.specs.Prelude.{◌≡◌, ℕ, ◌<◌, Bool, true, cond, ◌&&◌, nat_eq, List, length, slice_index_or, All, Some, None, is_some, ℤ}
 use Rattle.app_graph.specs.declared.mode_set.ModeSet.{ModeSet}
 use Rattle.app_graph.specs.Validation.{KeepsRules}
 use Rattle.sched_model.specs.declared.schedule.Schedule.{Schedule}
 use Rattle.runtime_model.specs.NodeTables.{part_of}
-use Rattle.runtime_model.specs.Plans.{plans_of}
+use Rattle.runtime_model.specs.Plans.{plans_of, AreSchedules}
+use Rattle.runtime_model.specs.System.{no_plan}
 use Rattle.beacon_codec.specs.declared.packet.Beacon.{Beacon}
 use Rattle.node_tables.specs.declared.tables.NodeTable.{NodeTable}
 use Rattle.node_tables.specs.declared.tables.OwnMessage.{OwnMessage}
-use Rattle.node_tables.specs.Parts.{AreSchedules, typed_table}
+use Rattle.node_tables.specs.Parts.{typed_table}
 use Rattle.node_core.specs.declared.packet.Packet.{Packet}
 use Rattle.node_core.specs.Lookup.{consumer_place}
 use Rattle.node_core.specs.Registers.{out_of, register_of}
@@ -16,6 +17,7 @@ use Rattle.node_core.specs.Running.{RunningNode, mode_of}
 use Rattle.node_core.specs.Rules.{first_heard, heard, coasted, passed, message_of_slot, takes, received, starts, started, end_answer, ended}
 use Rattle.node_core.specs.Conditions.{MayHear, MayMiss, MayPass, MayReceive, MayStart}
 use Rattle.node_core.specs.Fits.{TableFits, NodeFits}
+use Rattle.node_core.specs.PartLookups.{PartLooksUp}
 
 -- what holds of every node that runs is kept by each call whose condition holds
 pub record KeptByRules : Type 0 where
@@ -45,3 +47,8 @@ pub record RegistersByRules : Type 0 where
 -- the part of each node in right plans is within the limits of a table
 abbrev pub PartsFit : Type 0
 PartsFit = (set : ModeSet) (schedules : List Schedule) (v : ℕ) → KeepsRules set → AreSchedules set schedules → v < length set.nodes → TableFits (typed_table (part_of (plans_of set schedules) v))
+
+-- what each node finds in its part of right plans, for each mode
+abbrev pub PartsLookUp : Type 0
+PartsLookUp = (set : ModeSet) (schedules : List Schedule) (v m : ℕ) → KeepsRules set → AreSchedules set schedules → m < length set.modes →
+    let plans = plans_of set schedules in PartLooksUp plans v m (slice_index_or plans m no_plan) (typed_table (part_of plans v))

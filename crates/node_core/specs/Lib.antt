@@ -6,4 +6,5 @@ pub mod Conditions
 pub mod Fits
 pub mod Rows
 pub mod Kinds
+pub mod PartLookups
 pub mod Laws

@@ -161,8 +161,8 @@ impl Synced {
         self.kept.receive(slot, packet)
     }
 
-    /// Starts a task of the node's mode that is due at its tick, while no run is in progress, where the start is placed: fires the body with the inputs from the task's in registers,
-    /// which are then empty, and begins a run. Answers the inputs. A start that isn't placed changes nothing.
+    /// Starts a task of the node's mode that is due at its tick, where the start is placed: fires the body with the inputs from the task's in registers,
+    /// which are then empty, and begins a run, while no other is in progress. Answers the inputs. A start that isn't placed changes nothing.
     pub fn start(&mut self, task: u32, body: &mut Tally) -> Option<Inputs>
         requires { MayStart self.old task }
         ensures state { self.new ≡ started self.old task body.old }
@@ -217,8 +217,8 @@ impl Coasting {
         self.kept.pass(ticks);
     }
 
-    /// Starts a task of the node's mode that is due at its tick, while no run is in progress, where the start is placed: fires the body with the inputs from the task's in registers,
-    /// which are then empty, and begins a run. Answers the inputs. A start that isn't placed changes nothing.
+    /// Starts a task of the node's mode that is due at its tick, where the start is placed: fires the body with the inputs from the task's in registers,
+    /// which are then empty, and begins a run, while no other is in progress. Answers the inputs. A start that isn't placed changes nothing.
     pub fn start(&mut self, task: u32, body: &mut Tally) -> Option<Inputs>
         requires { MayStart self.old task }
         ensures state { self.new ≡ started self.old task body.old }

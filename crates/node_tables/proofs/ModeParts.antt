@@ -27,9 +27,9 @@ use Rattle.sched_model.proofs.Passing.{all_by_place}
 use Rattle.sched_model.proofs.RowPlaces.{shows_task, shows_message, task_count, message_count}
 use Rattle.sched_model.proofs.Times.{times}
 use Rattle.runtime_model.specs.NodeTables.{PlainOwnTask, PlainOwnMessage, PlainOwnSlot, PlainOwnRound, own_tasks, own_messages, own_slots, own_rounds, numbers, is_own}
-use Rattle.runtime_model.specs.Packets.{sender_of, takes_on}
+use Rattle.runtime_model.specs.Packets.{takes_on}
 use Rattle.runtime_model.specs.Placement.{release}
-use Rattle.runtime_model.specs.Plans.{Plan, offset, node_of, place_from}
+use Rattle.runtime_model.specs.Plans.{Plan, offset, node_of, place_from, sender_of}
 use Rattle.runtime_model.proofs.Times.{natural_is, place_is}
 use Rattle.node_tables.specs.declared.rows.MessageRow.{MessageRow}
 use Rattle.node_tables.specs.declared.tables.ModeTable.{ModeTable}

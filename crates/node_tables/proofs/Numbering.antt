@@ -1,12 +1,12 @@
 -- Tasks and messages of a mode have numbers that follow each other
-use Rattle.std.proofs.Common.{◌≡◌, ℕ, zero, suc, ◌+◌, ◌*◌, ◌<◌, ◌≤◌, true, false, None, List, [], ◌∷◌, length, get_or, refl, sym, ◌∙◌, ap, subst, arith}
+use Rattle.std.proofs.Common.{◌≡◌, ℕ, zero, suc, ◌+◌, ◌*◌, ◌<◌, ◌≤◌, None, List, [], ◌∷◌, length, get_or, refl, sym, ◌∙◌, ap, subst, arith}
 use Rattle.std.proofs.lemmas.List.{get_or-map, length-map}
 use Rattle.app_graph.specs.declared.raw.RawApp.{RawApp}
 use Rattle.app_graph.specs.declared.raw.RawMode.{RawMode}
 use Rattle.app_graph.specs.declared.raw.RawSet.{RawSet}
-use Rattle.app_graph.specs.declared.faults.GraphFault.TheVariants.{OutOfRange, TooMany}
-use Rattle.app_graph.specs.declared.keys.Key.TheVariants.{KMode, KNodes}
-use Rattle.app_graph.specs.ValueRules.{set_rules, node_rules, value_rules, at_most, has_some}
+use Rattle.app_graph.specs.declared.faults.GraphFault.TheVariants.{TooMany}
+use Rattle.app_graph.specs.declared.keys.Key.TheVariants.{KNodes}
+use Rattle.app_graph.specs.ValueRules.{set_rules, node_rules, value_rules, at_most}
 use Rattle.app_graph.proofs.Kept.{all_kept, unless_kept}
 use Rattle.sched_model.proofs.KeptRules.{KeptMode, kept_set}
 use Rattle.std.specs.List.{AllByRecursion}
@@ -15,7 +15,7 @@ use Rattle.std.proofs.lemmas.List.Concat.{length-flat_map}
 use Rattle.app_graph.specs.declared.mode_set.Mode.{Mode}
 use Rattle.app_graph.specs.declared.mode_set.App.{App}
 use Rattle.app_graph.specs.declared.mode_set.ModeSet.{ModeSet}
-use Rattle.app_graph.specs.Numbering.{apps_from, mode_of, modes_from, task_count, message_count, set_of}
+use Rattle.app_graph.specs.Numbering.{apps_from, mode_of, modes_from, task_count, message_count}
 use Rattle.app_graph.specs.Validation.{KeepsRules}
 use Rattle.sched_model.specs.PlainMode.{PlainTask, no_task, no_message, task_at, message_at, tasks_of, plain_task, plain_messages, mode_at, plain_at}
 use Rattle.sched_model.proofs.PlainPlaces.{nothing, task_found, task_there, message_found}
@@ -87,28 +87,12 @@ numbered set keeps i l =
     of_apps set i raw.nodes r.first_task r.first_message r.raw (omega (arith, r.task_low)) (omega (arith, r.message_low))
     (ap (λ (l : List Mode). (get_or l i no_mode).apps) same ∙ ap (λ (x : Mode). x.apps) r.is)
 
--- ---- the numbers of nodes and of modes
-length-modes : (nodes : List (List ℕ)) (t m : ℕ) (modes : List RawMode) → length (modes_from nodes t m modes) ≡ length modes
-length-modes nodes t m [] = refl
-length-modes nodes t m (mode ∷ modes) = ap suc (length-modes nodes (t + task_count mode) (m + message_count mode) modes)
-
-some_there : {X : Type 0} (xs : List X) → has_some xs ≡ true → 1 ≤ length xs
-some_there [] e = absurd (let q : false ≡ true = e in cc)
-some_there (x ∷ xs) e = omega arith
-
-raw_some : (raw : RawSet) → value_rules raw ≡ None → 1 ≤ length raw.modes
-raw_some raw e = let k = all_kept (set_rules raw) e in some_there raw.modes (unless_kept (has_some raw.modes) (OutOfRange KMode) k.1.1.0)
-
+-- ---- the number of nodes
 raw_nodes : (raw : RawSet) → value_rules raw ≡ None → length raw.nodes ≤ 64
 raw_nodes raw e =
     let k = all_kept (set_rules raw) e in
     let n = all_kept (node_rules raw) k.1.0 in
     leb-true (length raw.nodes) 64 (unless_kept (at_most 64 raw.nodes) (TooMany KNodes) n.1.0)
-
-pub some_mode : (set : ModeSet) → KeepsRules set → 1 ≤ length set.modes
-some_mode set (raw, e, same) =
-    let l : 1 ≤ length (set_of raw).modes = omega (arith, length-modes raw.nodes 0 0 raw.modes, raw_some raw e) in
-    subst (λ (s : ModeSet). 1 ≤ length s.modes) (sym same) l
 
 pub few_nodes : (set : ModeSet) → KeepsRules set → length set.nodes ≤ 64
 few_nodes set (raw, e, same) = subst (λ (s : ModeSet). length s.nodes ≤ 64) (sym same) (raw_nodes raw e)

@@ -23,9 +23,9 @@ use Rattle.sched_model.proofs.Lists.{get_or-map_below, flat_below-suc, length-be
 use Rattle.sched_model.proofs.OneTurn.{in_hyper}
 use Rattle.sched_model.proofs.Times.{times}
 use Rattle.runtime_model.specs.NodeTables.{PlainOwnTask, PlainOwnMessage, PlainOwnSlot, PlainOwnRound, own_tasks, own_messages, own_slots, own_rounds, numbers, is_own, mode_tables, part_of}
-use Rattle.runtime_model.specs.Packets.{sender_of, takes_on}
+use Rattle.runtime_model.specs.Packets.{takes_on}
 use Rattle.runtime_model.specs.Placement.{release}
-use Rattle.runtime_model.specs.Plans.{Plan, RightPlan, Carried, offset, node_of, place_from, no_schedule, plan_of, plans_of}
+use Rattle.runtime_model.specs.Plans.{Plan, RightPlan, Carried, offset, node_of, place_from, no_schedule, plan_of, plans_of, sender_of, AreSchedules}
 use Rattle.runtime_model.specs.Timeline.{steady}
 use Rattle.runtime_model.proofs.Times.{natural_is, place_is, is_release, slot_window, window_is}
 use Rattle.node_tables.specs.declared.tables.OwnTask.{OwnTask}
@@ -33,10 +33,11 @@ use Rattle.node_tables.specs.declared.tables.OwnMessage.{OwnMessage}
 use Rattle.node_tables.specs.Fields.{AreInRange, IsInRange}
 use Rattle.node_tables.specs.Image.{slot_fields, round_fields, task_field, message_fields, task_fields, mode_fields}
 use Rattle.node_tables.specs.Image as images
-use Rattle.node_tables.specs.Parts.{AreSchedules, part_in, typed_task, typed_message, typed_slot, typed_round, typed_mode, typed_table}
-use Rattle.node_tables.proofs.Numbering.{Numbered, numbered, some_mode, few_nodes}
+use Rattle.node_tables.specs.Parts.{part_in, typed_task, typed_message, typed_slot, typed_round, typed_mode, typed_table}
+use Rattle.node_tables.proofs.Numbering.{Numbered, numbered, few_nodes}
 use Rattle.node_tables.proofs.PlainParts.{kept}
-use Rattle.node_tables.proofs.WholeTables.{right_plan, rounds_few}
+use Rattle.runtime_model.proofs.RightSets.{right_plan, rounds_few}
+use Rattle.runtime_model.proofs.SetRules.{some_mode}
 
 -- ---- lists that pass a test
 
@@ -105,7 +106,7 @@ module _ (set : ModeSet) (i : ℕ) (keeps : KeepsRules set) (l : i < length set.
   pub time : HasTimes s
   time = times m (length s.starts) s ok right
 
-  whole : (nodes : ℕ) × RightPlan nodes p
+  whole : RightPlan (length set.nodes) p
   whole = right_plan set i keeps l s right
 
   pub nums : Numbered set i
@@ -198,9 +199,9 @@ module _ (set : ModeSet) (i : ℕ) (keeps : KeepsRules set) (l : i < length set.
   -- the release is from the hyperperiod before to the round's start
   release_range : (j a : ℕ) → Carried p j a → ((negsuc 999999999999) ≤ℤ release p j a) × (release p j a ≤ℤ pos 1000000000000)
   release_range j a c =
-      let w = slot_window whole.0 p whole.1 1 j a false steady c refl (λ e. refl) refl in
-      let is = (window_is whole.0 p whole.1 1 _ j a c w.after w.before).0 in
-      let rel = is_release whole.0 p whole.1 j a c in
+      let w = slot_window (length set.nodes) p whole 1 j a false steady c refl (λ e. refl) refl in
+      let is = (window_is (length set.nodes) p whole 1 _ j a c w.after w.before).0 in
+      let rel = is_release (length set.nodes) p whole j a c in
       let o = (All-get_or (λ z. IsTime z.0 × IsTime z.1) s.messages a (pos 0, pos 0) (omega (arith, c.1, right.shape.messages)) time.messages).0 in
       let h = hyper_bound j c.0 in
       (omega (arith, ints, is, ok.hyper_limit), omega (arith, ints, rel.opens_before, o.0, h, ok.hyper_limit))

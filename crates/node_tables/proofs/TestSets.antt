@@ -15,8 +15,7 @@ use Rattle.sched_model.specs.declared.schedule.Schedule.{Schedule}
 use Rattle.sched_model.specs.PlainMode.{plain_at}
 use Rattle.sched_model.specs.RightSchedule.{HasShape, IsSchedule}
 use Rattle.sched_model.specs.TimeLimits.{HasTimes, IsTime}
-use Rattle.runtime_model.specs.Plans.{no_schedule}
-use Rattle.node_tables.specs.Parts.{AreSchedules}
+use Rattle.runtime_model.specs.Plans.{no_schedule, AreSchedules}
 use Rattle.node_tables.specs.TestPlans.{loop_mode, idle_mode, set_with, loop_schedule, idle_schedule}
 
 abbrev raw_loop : RawMode

@@ -2,43 +2,15 @@
 use Rattle.std.proofs.Common.{◌≡◌, ℕ, zero, suc, ◌+◌, ◌<◌, ◌≤◌, List, [], ◌∷◌, ◌++◌, length, get_or, drop, map, refl, sym, ◌∙◌, ap, arith, append_assoc, append-nil}
 use Rattle.std.proofs.Math.Seq.{drop-cons}
 use Rattle.app_graph.specs.declared.mode_set.ModeSet.{ModeSet}
-use Rattle.app_graph.specs.Validation.{KeepsRules}
 use Rattle.sched_model.specs.declared.schedule.Schedule.{Schedule}
 use Rattle.sched_model.specs.Numbers.{below}
-use Rattle.sched_model.specs.PlainMode.{PlainTask, no_task, plain_at}
-use Rattle.sched_model.specs.RightSchedule.{IsSchedule}
-use Rattle.sched_model.proofs.KeptSets.{mode_at_valid}
-use Rattle.sched_model.proofs.LimitedModes.{mode_at_limited}
+use Rattle.sched_model.specs.PlainMode.{plain_at}
 use Rattle.sched_model.proofs.Lists.{length-below, get_or-map_below}
 use Rattle.std.proofs.lemmas.List.{length-map}
 use Rattle.runtime_model.specs.NodeTables.{PlainOwnTask, PlainOwnMessage, PlainOwnSlot, PlainOwnRound, PlainModeTable, PlainNodeTable, mode_tables}
-use Rattle.runtime_model.specs.Plans.{Plan, RightPlan, no_schedule, plan_of, plans_of}
-use Rattle.runtime_model.proofs.Times.{rounds_fit}
+use Rattle.runtime_model.specs.Plans.{Plan, no_schedule, plan_of, plans_of}
 use Rattle.node_tables.specs.declared.tables.ModeTable.{ModeTable}
 use Rattle.node_tables.specs.Parts.{part_in, plain_task, plain_message, plain_slot, plain_round, plain_mode, plain_table, typed_task, typed_message, typed_slot, typed_round, typed_mode, typed_table}
-
--- the nodes of tasks are below some number
-some_bound : (ts : List PlainTask) → (n : ℕ) × ((a : ℕ) → a < length ts → (get_or ts a no_task).node < n)
-some_bound [] = (0, λ a l. absurd (omega (arith, l)))
-some_bound (t ∷ ts) =
-    let r = some_bound ts in
-    (t.node + suc r.0, λ a l. by_place r.0 r.1 a l)
-  where
-    by_place : (n : ℕ) → ((a : ℕ) → a < length ts → (get_or ts a no_task).node < n) → (a : ℕ) → a < length (t ∷ ts) → (get_or (t ∷ ts) a no_task).node < t.node + suc n
-    by_place n f zero l = omega arith
-    by_place n f (suc a) l = omega (arith, f a (omega (arith, l)))
-
--- a right schedule of a mode of the set makes a right plan
-pub right_plan : (set : ModeSet) (i : ℕ) → KeepsRules set → i < length set.modes → (s : Schedule) → IsSchedule (plain_at set i) (length s.starts) s →
-    (nodes : ℕ) × RightPlan nodes (record { mode = plain_at set i; schedule = s })
-right_plan set i keeps l s right =
-    let b = some_bound (plain_at set i).tasks in
-    (b.0, record { valid = mode_at_valid set keeps i l; rounds = length s.starts; right = right; node = b.1 })
-
-pub rounds_few : (set : ModeSet) (i : ℕ) → KeepsRules set → i < length set.modes → (s : Schedule) → IsSchedule (plain_at set i) (length s.starts) s → length s.starts ≤ 256
-rounds_few set i keeps l s right =
-    let r = right_plan set i keeps l s right in
-    omega (arith, rounds_fit r.0 (record { mode = plain_at set i; schedule = s }) r.1, (mode_at_limited set keeps i l).rounds)
 
 -- the parts of the modes from place k on
 abbrev pub parts_from : ℕ → ℕ → ℕ → List Plan → List ModeTable

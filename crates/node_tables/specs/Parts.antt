@@ -1,12 +1,9 @@
 -- A node's table is its part of the plans
-use Rattle.std.specs.Prelude.{◌≡◌, ℕ, ◌<◌, List, length, map, slice_index_or, unsigned_abs, pos}
-use Rattle.app_graph.specs.declared.mode_set.ModeSet.{ModeSet}
-use Rattle.sched_model.specs.declared.schedule.Schedule.{Schedule}
+use Rattle.std.specs.Prelude.{ℕ, map, unsigned_abs, pos}
 use Rattle.sched_model.specs.Numbers.{natural}
-use Rattle.sched_model.specs.PlainMode.{hyper, plain_at}
-use Rattle.sched_model.specs.RightSchedule.{IsSchedule}
+use Rattle.sched_model.specs.PlainMode.{hyper}
 use Rattle.runtime_model.specs.NodeTables.{PlainOwnTask, PlainOwnMessage, PlainOwnSlot, PlainOwnRound, PlainModeTable, PlainNodeTable, own_tasks, own_messages, own_rounds}
-use Rattle.runtime_model.specs.Plans.{Plan, no_schedule}
+use Rattle.runtime_model.specs.Plans.{Plan}
 use Rattle.node_tables.specs.declared.tables.NodeTable.{NodeTable}
 use Rattle.node_tables.specs.declared.tables.ModeTable.{ModeTable}
 use Rattle.node_tables.specs.declared.tables.OwnTask.{OwnTask}
@@ -55,13 +52,6 @@ typed_mode m = record { hyper = pos m.hyper; first_round = m.first_round; tasks 
 -- the table with these numbers: there is one
 abbrev pub typed_table : PlainNodeTable → NodeTable
 typed_table t = record { node = t.node; modes = map typed_mode t.modes }
-
--- ---- schedules of a set
-
--- one schedule for each mode of the set, which is right for it
-pub record AreSchedules (set : ModeSet) (schedules : List Schedule) : Type 0 where
-  pub one_each : length schedules ≡ length set.modes
-  pub right : (i : ℕ) → i < length set.modes → let s = slice_index_or schedules i no_schedule in IsSchedule (plain_at set i) (length s.starts) s
 
 -- the part of node v of one plan, whose first round has this number over the file
 abbrev pub part_in : ℕ → ℕ → Plan → PlainModeTable

@@ -2,7 +2,7 @@
 
 ghost use Rattle.std.specs.Prelude.{◌≡◌, ◌<◌, ◌∷◌, [], IfOk, IsTrue, codes, length};
 ghost use Rattle.app_graph.specs.Validation.{KeepsRules};
-ghost use Rattle.node_tables.specs.Parts.{AreSchedules};
+ghost use Rattle.runtime_model.specs.Plans.{AreSchedules};
 ghost use Rattle.node_tables.specs.TestPlans.{idle_mode, idle_schedule, loop_mode, loop_schedule, set_with};
 
 use crate::{tables_of, write_image};

@@ -7,11 +7,11 @@ ghost use Rattle.sched_model.specs.PlainMode.{hyper, plain_at};
 ghost use Rattle.sched_model.specs.RightSchedule.{IsSchedule};
 ghost use Rattle.sched_model.specs.TimeLimits.{HasTimes, IsTime};
 ghost use Rattle.runtime_model.specs.NodeTables.{part_of};
-ghost use Rattle.runtime_model.specs.Plans.{no_schedule, plan_of, plans_of};
+ghost use Rattle.runtime_model.specs.Plans.{AreSchedules, no_schedule, plan_of, plans_of};
 ghost use Rattle.node_tables.specs.Image.{IsInRange};
 ghost use Rattle.node_tables.specs.OwnParts.{first_message, mode_kept, release_in, round_kept, rounds_kept, slot_kept, slot_part, slots_kept, task_part, tasks_kept};
 ghost use Rattle.node_tables.specs.PartLimits.{FewSlots, HasSizes, IsMessageRow, IsTaskRow};
-ghost use Rattle.node_tables.specs.Parts.{AreSchedules, part_in, plain_table, typed_mode, typed_table};
+ghost use Rattle.node_tables.specs.Parts.{part_in, plain_table, typed_mode, typed_table};
 
 use crate::rows::{MessageRow, first_message, make_messages, make_tasks};
 use crate::tables::{ModeTable, NodeTable, OwnRound, OwnSlot, OwnTask};

@@ -11,13 +11,13 @@ use Rattle.sched_model.specs.Rounds.{round_start, opens, closes}
 use Rattle.sched_model.proofs.Graph.{message_edge, contains_has, has_contains}
 use Rattle.sched_model.proofs.Tests.{passes}
 use Rattle.runtime_model.specs.Timeline.{PlainPhase, drains}
-use Rattle.runtime_model.specs.Plans.{Plan, RightPlan, Carried, node_of, offset, place_from}
+use Rattle.runtime_model.specs.Plans.{Plan, RightPlan, Carried, node_of, offset, place_from, sender_of}
 use Rattle.runtime_model.specs.Entries.{Entry, Action, slot, task_ends, task_starts}
 use Rattle.runtime_model.specs.Placement.{placed, release, not_negative, own_slot, window_at}
 use Rattle.runtime_model.specs.Outcomes.{PlainEvent, advance, Step, is_beacon, took, ended_run}
 use Rattle.runtime_model.specs.LookingBack.{synced, recall, last_beacon}
 use Rattle.runtime_model.specs.System.{System, plan_at}
-use Rattle.runtime_model.specs.Packets.{reached, in_set, both, all_present, sender_of, takes_on, held, packet, takes}
+use Rattle.runtime_model.specs.Packets.{reached, in_set, both, all_present, takes_on, held, packet, takes}
 use Rattle.runtime_model.specs.History.{history, step_of, spot_next, entries, entry_at, sent_or_not}
 use Rattle.runtime_model.specs.Laws.{RequestsFit, Lossless, NothingIsMissing}
 use Rattle.runtime_model.proofs.Cycles.{entry_right, has_slot}

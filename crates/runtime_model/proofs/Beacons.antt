@@ -112,16 +112,16 @@ seen_or_not y some (advance lost ∷ es) f =
 
 -- ---- under a right plan
 module _ (y : System) (md : ℕ) (ok : RightPlan y.nodes (plan_at y md)) where
-  start_is : (j : ℕ) → j < length (plan_at y md).schedule.starts → pos (natural (round_start (plan_at y md).schedule j)) ≡ round_start (plan_at y md).schedule j
+  pub start_is : (j : ℕ) → j < length (plan_at y md).schedule.starts → pos (natural (round_start (plan_at y md).schedule j)) ≡ round_start (plan_at y md).schedule j
   start_is j l = natural_is (round_start (plan_at y md).schedule j) (round_from_zero y.nodes (plan_at y md) ok j l)
 
   -- rounds begin later by place, and within the hyperperiod
-  later_start : (k j : ℕ) → suc (k + j) < length (plan_at y md).schedule.starts → round_start (plan_at y md).schedule j <ℤ round_start (plan_at y md).schedule (suc (k + j))
+  pub later_start : (k j : ℕ) → suc (k + j) < length (plan_at y md).schedule.starts → round_start (plan_at y md).schedule j <ℤ round_start (plan_at y md).schedule (suc (k + j))
   later_start zero j l = let e = ap (round_start (plan_at y md).schedule) (let q : suc (0 + j) ≡ suc j = omega arith in q) in omega (arith, ints, e, ok.right.s1.apart j (omega (arith, l)), ok.valid.round)
   later_start (suc k) j l = let e = ap (round_start (plan_at y md).schedule) (let q : suc (suc k + j) ≡ suc (suc (k + j)) = omega arith in q) in
       omega (arith, ints, e, later_start k j (omega (arith, l)), ok.right.s1.apart (suc (k + j)) (omega (arith, l)), ok.valid.round)
 
-  before_end : (j : ℕ) → j < length (plan_at y md).schedule.starts → round_start (plan_at y md).schedule j <ℤ pos (H y md)
+  pub before_end : (j : ℕ) → j < length (plan_at y md).schedule.starts → round_start (plan_at y md).schedule j <ℤ pos (H y md)
   before_end j l =
       let r = length (plan_at y md).schedule.starts in
       let e = ok.right.s1.end (r - 1) (omega (arith, l)) in
@@ -164,7 +164,7 @@ module _ (y : System) (right : AllRight y) where
   some es rf = let w = beacon_place y (last_spot (history y es)).hyper.mode (right es rf) 0 (some_round es rf) in omega (arith, w.1.0)
 
   -- what a seen beacon is, and when
-  seen_round : (es : List PlainEvent) (rf : RequestsFit y es) (h : Seen y (history y es)) → (j : ℕ) × (j < length (plan_at y (last_spot (history y es)).hyper.mode).schedule.starts)
+  pub seen_round : (es : List PlainEvent) (rf : RequestsFit y es) (h : Seen y (history y es)) → (j : ℕ) × (j < length (plan_at y (last_spot (history y es)).hyper.mode).schedule.starts)
       × Is y (last_spot (history y es)).hyper.mode h.done.spot.index (natural (round_start (plan_at y (last_spot (history y es)).hyper.mode).schedule j)) (beacon j)
       × (moment y h.done ≡ (last_spot (history y es)).begin + natural (round_start (plan_at y (last_spot (history y es)).hyper.mode).schedule j))
   seen_round es rf h =

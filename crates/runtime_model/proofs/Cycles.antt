@@ -160,7 +160,7 @@ RightIn p u c e = (e.tick ≡ u) × (RightAt p u e.action) × (rank e.action ≡
 pub ends_right : (nodes : ℕ) (p : Plan) (u : ℕ) → AllByRecursion (RightIn p u 0) (by_node nodes p (due_end p u) task_ends u)
 ends_right nodes p u = all_by_node (RightIn p u 0) nodes p (due_end p u) task_ends u (λ a l t. (refl, (l, t), refl))
 
-starts_right : (nodes : ℕ) (p : Plan) (u : ℕ) → AllByRecursion (RightIn p u 2) (by_node nodes p (due_start p u) task_starts u)
+pub starts_right : (nodes : ℕ) (p : Plan) (u : ℕ) → AllByRecursion (RightIn p u 2) (by_node nodes p (due_start p u) task_starts u)
 starts_right nodes p u = all_by_node (RightIn p u 2) nodes p (due_start p u) task_starts u (λ a l t. (refl, (l, t), refl))
 
 round_right : (p : Plan) (u j : ℕ) → j < length p.schedule.starts → AllByRecursion (RightIn p u 1) (round_at p u j)
@@ -236,11 +236,11 @@ parts_rise f h (suc n) =
           (all_more (λ x. key x ≤ 3 * n + 2) (λ x. key x ≤ 3 * suc n) (f n) (λ x g. omega (arith, g)) k.2)),
     )
 
-cycle_rises : (nodes : ℕ) (p : Plan) → Rises (cycle nodes p)
+pub cycle_rises : (nodes : ℕ) (p : Plan) → Rises (cycle nodes p)
 unfolding cycle
 cycle_rises nodes p = (parts_rise (at_tick nodes p) (tick_rises nodes p) (hyper p.mode)).0
 
-rises_at : (xs : List Entry) (i j : ℕ) → Rises xs → i ≤ j → j < length xs → key (get_or xs i none) ≤ key (get_or xs j none)
+pub rises_at : (xs : List Entry) (i j : ℕ) → Rises xs → i ≤ j → j < length xs → key (get_or xs i none) ≤ key (get_or xs j none)
 rises_at [] i j h l b = absurd (omega arith)
 rises_at (x ∷ xs) zero zero h l b = omega arith
 rises_at (x ∷ xs) zero (suc j) h l b = all_at (λ y. key x ≤ key y) xs j none h.0 (omega arith)

@@ -17,7 +17,7 @@ use Rattle.runtime_model.specs.System.{System, plan_at, no_plan}
 use Rattle.runtime_model.specs.Packets.{packet}
 use Rattle.runtime_model.specs.History.{history, step_of, spot_next, entries, entry_at, last_spot, next_place, marks_of, turns, arrival, is_first_beacon, performed, finished_or_not, sent_or_not, start_or_not}
 use Rattle.runtime_model.specs.Script.{opens_round}
-use Rattle.runtime_model.specs.World.{schedule_counts, has_ended, own_calls, calls_of, beacon_place}
+use Rattle.runtime_model.specs.HostOfEvents.{schedule_counts, has_ended, own_calls, calls_of, beacon_place}
 use Rattle.runtime_model.specs.Laws.{RequestsFit, HostsFollowEvents}
 use Rattle.runtime_model.proofs.Cycles.{none, entry_right, RightAt}
 use Rattle.runtime_model.proofs.Once.{beacon_once}
@@ -76,7 +76,7 @@ later_beacon rounds s ms r c = record {
 }
 
 -- ---- what a step adds
-counts_at : (ps : List Plan) (md : ℕ) → rounds_in (round_counts (map (λ p. p.schedule) ps)) md ≡ length (get_or ps md no_plan).schedule.starts
+pub counts_at : (ps : List Plan) (md : ℕ) → rounds_in (round_counts (map (λ p. p.schedule) ps)) md ≡ length (get_or ps md no_plan).schedule.starts
 counts_at [] md = refl
 counts_at (p ∷ ps) zero = refl
 counts_at (p ∷ ps) (suc md) = counts_at ps md
@@ -106,17 +106,17 @@ quiet_calls y d p s lost ds u (task_starts a) e = of_start (placed s.hyper.openi
     of_start true = refl
     of_start false = refl
 
-quiet_more : (y : System) (ds : List Step) (n lo : ℕ) → ((i : ℕ) → lo ≤ i → i < n → BeaconAt y ds i ≡ false) → BeaconAt y ds n ≡ false → (i : ℕ) → lo ≤ i → i < suc n → BeaconAt y ds i ≡ false
+pub quiet_more : (y : System) (ds : List Step) (n lo : ℕ) → ((i : ℕ) → lo ≤ i → i < n → BeaconAt y ds i ≡ false) → BeaconAt y ds n ≡ false → (i : ℕ) → lo ≤ i → i < suc n → BeaconAt y ds i ≡ false
 quiet_more y ds n lo before here i a b =
     ⊎_elim (λ (l : i < n). before i a l) (λ (l : n ≤ i). subst (λ z. BeaconAt y ds z ≡ false) (let q : n ≡ i = omega (arith, l, b) in q) here) (cases_lt i n)
 
 -- the host is in the round of the last beacon, which was in the last hyperperiod; or that had no beacon yet, and the host is in no round
-abbrev Where : System → List Step → CallState → List Mark → Type 0
+abbrev pub Where : System → List Step → CallState → List Mark → Type 0
 Where y ds s ms =
     ((h : Seen y ds) × (j : ℕ) × Is y (last_spot ds).hyper.mode h.done.spot.index (natural (round_start (plan_at y (last_spot ds).hyper.mode).schedule j)) (beacon j) × (beacon_place y h.done h.done.out ≡ j) × Comes s ms (suc j) true)
     ⊎ (Unseen y ds × Comes s ms 1 false)
 
-abbrev After : System → List Step → List HostCall → List Mark → Type 0
+abbrev pub After : System → List Step → List HostCall → List Mark → Type 0
 After y ds calls ms = AllMay (schedule_counts y) calls × Where y ds (call_state (schedule_counts y) calls) ms
 
 -- the calls and the marks of a step by what they are
@@ -127,7 +127,7 @@ settle y ds calls calls' ms ms' a b w =
 -- ---- one more Advance
 module _ (y : System) (right : AllRight y) where
   -- the entry is a beacon
-  seen_now : (es : List PlainEvent) (rf : RequestsFit y es) (lost : ℕ) → opens_round (entry_at y (spot_next y (history y es))).action ≡ true → (g : Seen y (history y (advance lost ∷ es))) × (g.done ≡ step_of y (advance lost) (history y es))
+  pub seen_now : (es : List PlainEvent) (rf : RequestsFit y es) (lost : ℕ) → opens_round (entry_at y (spot_next y (history y es))).action ≡ true → (g : Seen y (history y (advance lost ∷ es))) × (g.done ≡ step_of y (advance lost) (history y es))
   seen_now es rf lost rings =
       let ds = history y es in
       let s = spot_next y ds in
@@ -137,7 +137,7 @@ module _ (y : System) (right : AllRight y) where
       (record { done = d; is_last = cond-true (is_beacon d.out) (Some d) (last_beacon ds) (is ∙ rings); stay = refl; turn = refl; mode = refl; begin = refl; past = omega arith; inside = index_now y right es rf lost; is_beacon = rings; quiet = λ i a b. absurd (omega (arith, a, b)) }, refl)
 
   -- it is none, in the same hyperperiod
-  seen_still : (es : List PlainEvent) (lost : ℕ) → Same y (history y es) (spot_next y (history y es)) → opens_round (entry_at y (spot_next y (history y es))).action ≡ false → (h : Seen y (history y es)) → (g : Seen y (history y (advance lost ∷ es))) × (g.done ≡ h.done)
+  pub seen_still : (es : List PlainEvent) (lost : ℕ) → Same y (history y es) (spot_next y (history y es)) → opens_round (entry_at y (spot_next y (history y es))).action ≡ false → (h : Seen y (history y es)) → (g : Seen y (history y (advance lost ∷ es))) × (g.done ≡ h.done)
   seen_still es lost m no_beacon h =
       let ds = history y es in
       let s = spot_next y ds in
@@ -160,31 +160,31 @@ module _ (y : System) (right : AllRight y) where
         refl,
       )
 
-  unseen_still : (es : List PlainEvent) (lost : ℕ) → Same y (history y es) (spot_next y (history y es)) → opens_round (entry_at y (spot_next y (history y es))).action ≡ false → Unseen y (history y es) → Unseen y (history y (advance lost ∷ es))
+  pub unseen_still : (es : List PlainEvent) (lost : ℕ) → Same y (history y es) (spot_next y (history y es)) → opens_round (entry_at y (spot_next y (history y es))).action ≡ false → Unseen y (history y es) → Unseen y (history y (advance lost ∷ es))
   unseen_still es lost m no_beacon h i b =
       let ds = history y es in
       let s = spot_next y ds in
       quiet_more y (step_of y (advance lost) ds ∷ ds) s.index 0 (λ i a b. ap (λ (z : ℕ). opens_round (get_or (entries y z) i none).action) m.alike.mode ∙ h i (omega (arith, b, m.index))) no_beacon i (omega arith) b
 
   -- it is none, and begins a hyperperiod
-  unseen_anew : (es : List PlainEvent) (lost : ℕ) → (spot_next y (history y es)).index ≡ 0 → opens_round (entry_at y (spot_next y (history y es))).action ≡ false → Unseen y (history y (advance lost ∷ es))
+  pub unseen_anew : (es : List PlainEvent) (lost : ℕ) → (spot_next y (history y es)).index ≡ 0 → opens_round (entry_at y (spot_next y (history y es))).action ≡ false → Unseen y (history y (advance lost ∷ es))
   unseen_anew es lost begin no_beacon i b =
       let ds = history y es in
       let s = spot_next y ds in
       quiet_more y (step_of y (advance lost) ds ∷ ds) s.index 0 (λ i a b. absurd (omega (arith, b, begin))) no_beacon i (omega arith) b
 
   -- whether the entry is the first beacon does not depend on what the timeline sees of it
-  first_value : (es : List PlainEvent) → is_first_beacon (entry_at y (arrival y (history y es))).action ≡ is_first_beacon (entry_at y (spot_next y (history y es))).action
+  pub first_value : (es : List PlainEvent) → is_first_beacon (entry_at y (arrival y (history y es))).action ≡ is_first_beacon (entry_at y (spot_next y (history y es))).action
   first_value es =
       let ds = history y es in
       let s = spot_next y ds in
       ap (λ (z : ℕ). is_first_beacon (get_or (entries y z) s.index none).action) (sym (arrival_mode y ds (is_first_beacon (entry_at y (arrival y ds)).action) (turns y ds)))
 
-  count_now : (es : List PlainEvent) → rounds_in (schedule_counts y) (timeline_of (marks_of (history y es))).last.mode ≡ length (plan_at y (last_spot (history y es)).hyper.mode).schedule.starts
+  pub count_now : (es : List PlainEvent) → rounds_in (schedule_counts y) (timeline_of (marks_of (history y es))).last.mode ≡ length (plan_at y (last_spot (history y es)).hyper.mode).schedule.starts
   count_now es = counts_at y.plans (timeline_of (marks_of (history y es))).last.mode ∙ ap (λ z. length (plan_at y z).schedule.starts) (stands y es).alike.mode
 
   -- where no entry of the hyperperiod is left, the host is in the last round
-  over_is_last : (es : List PlainEvent) (rf : RequestsFit y es) (s : CallState) → length (entries y (last_spot (history y es)).hyper.mode) ≤ next_place (history y es) → Where y (history y es) s (marks_of (history y es)) →
+  pub over_is_last : (es : List PlainEvent) (rf : RequestsFit y es) (s : CallState) → length (entries y (last_spot (history y es)).hyper.mode) ≤ next_place (history y es) → Where y (history y es) s (marks_of (history y es)) →
       (r : ℕ) × (r ≡ rounds_in (schedule_counts y) (timeline_of (marks_of (history y es))).last.mode) × Comes s (marks_of (history y es)) r true
   over_is_last es rf s over at =
       let md = (last_spot (history y es)).hyper.mode in
@@ -203,10 +203,10 @@ module _ (y : System) (right : AllRight y) where
       beacon_place_of md j ok l = Rattle.runtime_model.proofs.Beacons.beacon_place y md ok j l
 
   -- the beacon of the round at place j, just heard or missed
-  abbrev SeenAt : List Step → ℕ → Type 0
+  abbrev pub SeenAt : List Step → ℕ → Type 0
   SeenAt ds j = (h : Seen y ds) × Is y (last_spot ds).hyper.mode h.done.spot.index (natural (round_start (plan_at y (last_spot ds).hyper.mode).schedule j)) (beacon j) × (beacon_place y h.done h.done.out ≡ j)
 
-  seen_at : (es : List PlainEvent) (rf : RequestsFit y es) (lost j : ℕ) → (entry_at y (spot_next y (history y es))).action ≡ beacon j → SeenAt (history y (advance lost ∷ es)) j
+  pub seen_at : (es : List PlainEvent) (rf : RequestsFit y es) (lost j : ℕ) → (entry_at y (spot_next y (history y es))).action ≡ beacon j → SeenAt (history y (advance lost ∷ es)) j
   seen_at es rf lost j act =
       let ds = history y es in
       let s = spot_next y ds in
@@ -223,7 +223,7 @@ module _ (y : System) (right : AllRight y) where
       minus : (n j : ℕ) → n + j - n ≡ j
       minus n j = omega arith
 
-  still_at : (es : List PlainEvent) (lost j : ℕ) → Same y (history y es) (spot_next y (history y es)) → opens_round (entry_at y (spot_next y (history y es))).action ≡ false → SeenAt (history y es) j → SeenAt (history y (advance lost ∷ es)) j
+  pub still_at : (es : List PlainEvent) (lost j : ℕ) → Same y (history y es) (spot_next y (history y es)) → opens_round (entry_at y (spot_next y (history y es))).action ≡ false → SeenAt (history y es) j → SeenAt (history y (advance lost ∷ es)) j
   still_at es lost j m no_beacon h =
       let g = seen_still es lost m no_beacon h.0 in
       let is = subst (λ (z : ℕ). Is y z h.0.done.spot.index (natural (round_start (plan_at y z).schedule j)) (beacon j)) (sym m.alike.mode) h.1 in (
@@ -299,6 +299,34 @@ module _ (y : System) (right : AllRight y) where
       apart : (n j i : ℕ) → j ≡ suc i → nat_eq (n + j) n ≡ false
       apart n j i e = grind (arith, e)
 
+  -- each round's beacon stands in the cycle
+  pub beacon_place_in : (md j : ℕ) → Rattle.runtime_model.specs.Plans.RightPlan y.nodes (plan_at y md) → j < length (plan_at y md).schedule.starts → (i : ℕ) × Is y md i (natural (round_start (plan_at y md).schedule j)) (beacon j)
+  beacon_place_in md j ok l = Rattle.runtime_model.proofs.Beacons.beacon_place y md ok j l
+
+  -- the next beacon of a hyperperiod is that of the next round
+  pub follows_seen : (es : List PlainEvent) (rf : RequestsFit y es) → Rattle.runtime_model.specs.Plans.RightPlan y.nodes (plan_at y (last_spot (history y es)).hyper.mode) → (h : Seen y (history y es)) (k : ℕ) →
+      Is y (last_spot (history y es)).hyper.mode h.done.spot.index (natural (round_start (plan_at y (last_spot (history y es)).hyper.mode).schedule k)) (beacon k) →
+      (i t j : ℕ) → Is y (last_spot (history y es)).hyper.mode i t (beacon j) → i ≡ next_place (history y es) → suc k ≡ j
+  follows_seen es rf ok h k at i t j is now =
+      let md = (last_spot (history y es)).hyper.mode in
+      let p = plan_at y md in
+      let here = (subst (λ (x : Entry). RightAt p x.tick x.action) is.1 (entry_right y.nodes p i is.0).1) in
+      ⊎_elim
+      (λ (less : k < j).
+      let before = beacon_place_in md (j - 1) ok (omega (arith, here.0)) in
+      let sooner = beacon_order y md ok before.0 (j - 1) i j (natural (round_start p.schedule (j - 1))) t before.1 is (omega (arith, less)) in
+      let low = not_lower y right es rf h k (j - 1) before.0 at before.1 (omega (arith, sooner, now)) in
+      omega (arith, less, low))
+      (λ (le : j ≤ k). ⊎_elim
+      (λ (less : j < k). absurd (omega (arith, beacon_order y md ok i j h.done.spot.index k t (natural (round_start p.schedule k)) is at less, h.past, now)))
+      (λ (ge : k ≤ j).
+      let same : k ≡ j = omega (arith, le, ge) in
+      let at' = subst (λ z. Is y md h.done.spot.index (natural (round_start p.schedule z)) (beacon z)) same at in
+      let is' = subst (λ z. Is y md i z (beacon j)) (sym here.1) is in
+      absurd (omega (arith, beacon_once y.nodes p (natural (round_start p.schedule j)) j h.done.spot.index i at'.0 is'.0 at'.1 is'.1, h.past, now)))
+      (cases_lt j k))
+      (cases_lt k j)
+
   -- an entry that is a beacon
   beacon_step : (es : List PlainEvent) (rf : RequestsFit y es) (lost j : ℕ) → (entry_at y (spot_next y (history y es))).action ≡ beacon j → After y (history y es) (calls_of y (history y es)) (marks_of (history y es)) →
       After y (history y (advance lost ∷ es)) (calls_of y (history y (advance lost ∷ es))) (marks_of (history y (advance lost ∷ es)))
@@ -349,41 +377,14 @@ module _ (y : System) (right : AllRight y) where
       (λ r. ⊎_elim (λ (m : Within y ds s). turn m.over m.index) (λ (m : Opens y ds s). turn m.over m.index) r)
       (moves y ds (stands y es))
     where
-      beacon_place_in : (md j : ℕ) → Rattle.runtime_model.specs.Plans.RightPlan y.nodes (plan_at y md) → j < length (plan_at y md).schedule.starts → (i : ℕ) × Is y md i (natural (round_start (plan_at y md).schedule j)) (beacon j)
-      beacon_place_in md j ok l = Rattle.runtime_model.proofs.Beacons.beacon_place y md ok j l
-
       not_after : (a b j : ℕ) → (0 < j → a < b) → b ≤ 0 → j ≡ 0
       not_after a b j f l = ⊎_elim (λ (later : 0 < j). absurd (omega (arith, f later, l))) (λ (z : j ≤ 0). omega (arith, z)) (cases_lt 0 j)
 
       not_later : (j : ℕ) → (0 < j → ⊥) → j ≡ 0
       not_later j f = ⊎_elim (λ (later : 0 < j). absurd (f later)) (λ (z : j ≤ 0). omega (arith, z)) (cases_lt 0 j)
 
-      -- the next beacon of a hyperperiod is that of the next round
-      follows_seen : (es : List PlainEvent) (rf : RequestsFit y es) → Rattle.runtime_model.specs.Plans.RightPlan y.nodes (plan_at y (last_spot (history y es)).hyper.mode) → (h : Seen y (history y es)) (k : ℕ) →
-          Is y (last_spot (history y es)).hyper.mode h.done.spot.index (natural (round_start (plan_at y (last_spot (history y es)).hyper.mode).schedule k)) (beacon k) →
-          (i t j : ℕ) → Is y (last_spot (history y es)).hyper.mode i t (beacon j) → i ≡ next_place (history y es) → suc k ≡ j
-      follows_seen es rf ok h k at i t j is now =
-          let md = (last_spot (history y es)).hyper.mode in
-          let p = plan_at y md in
-          let here = (subst (λ (x : Entry). RightAt p x.tick x.action) is.1 (entry_right y.nodes p i is.0).1) in
-          ⊎_elim
-          (λ (less : k < j).
-          let before = beacon_place_in md (j - 1) ok (omega (arith, here.0)) in
-          let sooner = beacon_order y md ok before.0 (j - 1) i j (natural (round_start p.schedule (j - 1))) t before.1 is (omega (arith, less)) in
-          let low = not_lower y right es rf h k (j - 1) before.0 at before.1 (omega (arith, sooner, now)) in
-          omega (arith, less, low))
-          (λ (le : j ≤ k). ⊎_elim
-          (λ (less : j < k). absurd (omega (arith, beacon_order y md ok i j h.done.spot.index k t (natural (round_start p.schedule k)) is at less, h.past, now)))
-          (λ (ge : k ≤ j).
-          let same : k ≡ j = omega (arith, le, ge) in
-          let at' = subst (λ z. Is y md h.done.spot.index (natural (round_start p.schedule z)) (beacon z)) same at in
-          let is' = subst (λ z. Is y md i z (beacon j)) (sym here.1) is in
-          absurd (omega (arith, beacon_once y.nodes p (natural (round_start p.schedule j)) j h.done.spot.index i at'.0 is'.0 at'.1 is'.1, h.past, now)))
-          (cases_lt j k))
-          (cases_lt k j)
-
   -- ---- every list of events
-  after : (es : List PlainEvent) → RequestsFit y es → After y (history y es) (calls_of y (history y es)) (marks_of (history y es))
+  pub after : (es : List PlainEvent) → RequestsFit y es → After y (history y es) (calls_of y (history y es)) (marks_of (history y es))
   after [] f = (tt, inr ((λ i l. absurd (omega (arith, l))), record { marks = refl; round = refl; inside = refl }))
   after (request m ∷ es) f =
       let w = after es f.1 in

@@ -7,11 +7,11 @@ use Rattle.runtime_model.specs.Laws.{HostsKeepTime}
 use Rattle.runtime_model.specs.Timeline.{PlainPhase, steady, warn, drain, drains, Hyperperiod, Timeline, begins, ended, timeline_of, untaken, request_in, phase_at_beacon, decided, follows}
 
 -- the last hyperperiod of a list of calls
-abbrev last_of : CallState → Hyperperiod
+abbrev pub last_of : CallState → Hyperperiod
 last_of s = (timeline_of s.marks).last
 
 -- what holds of the last hyperperiod after calls that met their conditions
-abbrev Fits : ℕ → Bool → Hyperperiod → Type 0
+abbrev pub Fits : ℕ → Bool → Hyperperiod → Type 0
 Fits r i h = (h.begun ≡ true) × ((i ≡ true) ⊎ (r ≡ 1 → ⊥)) ⊎ (i ≡ false) × (r ≡ 1) × (h.begun ≡ false) × (h.late ≡ [])
 
 abbrev hyp : ℕ → Bool → PlainPhase → Bool → List ℕ → List ℕ → Hyperperiod
@@ -86,11 +86,11 @@ follows_fits mode steady = inr (refl, refl, refl, refl)
 follows_fits mode (warn m) = inr (refl, refl, refl, refl)
 follows_fits mode (drain m) = inr (refl, refl, refl, refl)
 
-outside_fits : (r : ℕ) (i : Bool) (h : Hyperperiod) → i ≡ false → r ≡ 1 → Fits r i h → (h.begun ≡ false) × (h.late ≡ [])
+pub outside_fits : (r : ℕ) (i : Bool) (h : Hyperperiod) → i ≡ false → r ≡ 1 → Fits r i h → (h.begun ≡ false) × (h.late ≡ [])
 outside_fits r i h e one (inl x) = absurd (⊎_elim (λ y. bool_apart (sym y ∙ e)) (λ y. y one) x.1)
 outside_fits r i h e one (inr x) = (x.2, x.3)
 
-inside_fits : (r : ℕ) (i : Bool) (h : Hyperperiod) → i ≡ true → Fits r i h → h.begun ≡ true
+pub inside_fits : (r : ℕ) (i : Bool) (h : Hyperperiod) → i ≡ true → Fits r i h → h.begun ≡ true
 inside_fits r i h e (inl x) = x.0
 inside_fits r i h e (inr x) = absurd (bool_apart (sym e ∙ x.0))
 
@@ -136,7 +136,7 @@ some_round rounds (end_round_call ∷ cs) = by_test (nat_lt (call_state rounds c
     by_test true = omega arith
     by_test false = omega arith
 
-fits : (rounds : List ℕ) (cs : List HostCall) → AllMay rounds cs → Fits (call_state rounds cs).round (call_state rounds cs).inside (last_of (call_state rounds cs))
+pub fits : (rounds : List ℕ) (cs : List HostCall) → AllMay rounds cs → Fits (call_state rounds cs).round (call_state rounds cs).inside (last_of (call_state rounds cs))
 fits rounds [] a = inr (refl, refl, refl, refl)
 fits rounds (c ∷ cs) a = (step rounds (call_state rounds cs) c (some_round rounds cs) a.0 (fits rounds cs a.1)).1
 

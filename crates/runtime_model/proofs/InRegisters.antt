@@ -13,11 +13,11 @@ use Rattle.runtime_model.specs.Inputs.{inputs}
 use Rattle.runtime_model.specs.Laws.{InputsHold}
 use Rattle.runtime_model.specs.LookingBack.{recall, or_else, runs, synced}
 use Rattle.runtime_model.specs.Outcomes.{PlainEvent, advance, request, restart, Spot, Step, Outcome, beaconed, sent, silent, started, off, finished, void, requested, restarted, is_beacon, restarts, begun_run, took}
-use Rattle.runtime_model.specs.Packets.{sender_of, packet, held, takes_on, reached}
+use Rattle.runtime_model.specs.Packets.{packet, held, takes_on, reached}
 use Rattle.runtime_model.specs.Placement.{placed, own_slot, own_start, window_at, run_at, ends_run, ending_run_at}
-use Rattle.runtime_model.specs.Plans.{Plan, offset, node_of, RightPlan}
+use Rattle.runtime_model.specs.Plans.{Plan, offset, node_of, RightPlan, sender_of}
 use Rattle.runtime_model.specs.Registers.{last_in, flat, values_of}
-use Rattle.runtime_model.specs.System.{System, plan_at, body_at, state}
+use Rattle.runtime_model.specs.System.{System, plan_at}
 use Rattle.runtime_model.specs.Timeline.{drains}
 use Rattle.sched_model.proofs.Graph.{message_edge}
 use Rattle.runtime_model.proofs.Cycles.{none, entry_right, RightAt}
@@ -218,7 +218,7 @@ module _ (y : System) (md b i : ℕ) (ok : RightPlan y.nodes (plan_at y md)) (il
       let number = (task_at p.mode b).number in
       let l = run_at p s.turn u b in
       let ins = inputs p s.stay b l ds in
-      (l, ins, (body_at y (y.body_of number)).answer (state y (y.body_of number) ds) number ins, out ∙ ap (start_or_not y p s ds b u) may)
+      (l, ins, y.answers ds number ins, out ∙ ap (start_or_not y p s ds b u) may)
 
   -- after a packet of window l no start of run l is past while the register is full
   no_start_before : (es : List PlainEvent) (st n j u l : ℕ) (xs : List ℤ) → (last_spot (history y es)).hyper.mode ≡ md →

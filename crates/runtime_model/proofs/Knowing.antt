@@ -71,14 +71,14 @@ quiet_is_steady y ds lost b a =
     not_not false e = absurd cc
 
 -- ---- the phase of the last hyperperiod
-request_phase : (h : Hyperperiod) (m : ℕ) → (request_in h m).phase ≡ h.phase
+pub request_phase : (h : Hyperperiod) (m : ℕ) → (request_in h m).phase ≡ h.phase
 request_phase h m = by_test h.begun
   where
     by_test : (b : Bool) → (cond b (record h { late = m ∷ h.late }) (record h { early = m ∷ h.early })).phase ≡ h.phase
     by_test true = refl
     by_test false = refl
 
-phase_stands : (y : System) (es : List PlainEvent) → (timeline_of (marks_of (history y es))).last.phase ≡ (last_spot (history y es)).hyper.phase
+pub phase_stands : (y : System) (es : List PlainEvent) → (timeline_of (marks_of (history y es))).last.phase ≡ (last_spot (history y es)).hyper.phase
 phase_stands y [] = refl
 phase_stands y (request m ∷ es) = request_phase (timeline_of (marks_of (history y es))).last m ∙ phase_stands y es
 phase_stands y (restart v ∷ es) = phase_stands y es
@@ -88,7 +88,7 @@ steady_follows : (mode : ℕ) (phase : PlainPhase) → phase ≡ steady → (fol
 steady_follows mode phase e = ap (λ (p : PlainPhase). (follows mode p).phase) e
 
 -- an Advance that is no first beacon leaves a steady timeline steady
-steady_with : (ms : List Mark) (b c : Bool) → b ≡ false → (timeline_of ms).last.phase ≡ steady → (timeline_of ((cond b (begins ∷ []) [] ++ cond c (ended ∷ []) []) ++ ms)).last.phase ≡ steady
+pub steady_with : (ms : List Mark) (b c : Bool) → b ≡ false → (timeline_of ms).last.phase ≡ steady → (timeline_of ((cond b (begins ∷ []) [] ++ cond c (ended ∷ []) []) ++ ms)).last.phase ≡ steady
 steady_with ms true c e h = absurd cc
 steady_with ms false true e h = steady_follows (timeline_of ms).last.mode (timeline_of ms).last.phase h
 steady_with ms false false e h = h

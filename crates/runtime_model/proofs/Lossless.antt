@@ -14,7 +14,7 @@ use Rattle.runtime_model.specs.Entries.{Action, task_ends, beacon, slot, task_st
 use Rattle.runtime_model.specs.Placement.{placed, own_start, run_at, ends_run, ending_run_at}
 use Rattle.runtime_model.specs.Outcomes.{PlainEvent, advance, request, restart, Outcome, Spot, Step, is_beacon, hears, restarts, begun_run, ended_run}
 use Rattle.runtime_model.specs.LookingBack.{synced, coasts, runs, recall, last_beacon}
-use Rattle.runtime_model.specs.System.{System, plan_at, body_at, state}
+use Rattle.runtime_model.specs.System.{System, plan_at}
 use Rattle.runtime_model.specs.Packets.{in_set, reached, packet}
 use Rattle.runtime_model.specs.Inputs.{inputs}
 use Rattle.runtime_model.specs.History.{history, step_of, spot_next, last_spot, entries, entry_at, performed, sent_or_not, start_or_not, finished_or_not}
@@ -227,7 +227,7 @@ module _ (y : System) (right : AllRight y) (md st : ℕ) where
         let number = (task_at p.mode a).number in
         let k' = run_at p s.turn u a in
         let ins = inputs p s.stay a k' ds in
-        let ans = (body_at y (y.body_of number)).answer (state y (y.body_of number) ds) number ins in
+        let ans = y.answers ds number ins in
         let says = ap (begun_run a k) out' ∙ cond-true (nat_eq a a && nat_eq k' k) (Some ans) None (both_true (nat_eq a a) (nat_eq k' k) (eq-eqb a a refl) (eq-eqb k' k (run_is y md a fit s.turn u k time))) in
         ((ans, says), still_some (is_beacon d.out) d (last_beacon ds) heard)
 

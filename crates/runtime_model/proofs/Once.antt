@@ -1,4 +1,4 @@
--- Each start and each beacon stands once in its cycle
+-- Each start, each end and each beacon stands once in its cycle
 use Rattle.std.proofs.Common.{◌≡◌, ℕ, zero, suc, ◌+◌, ◌-◌, ◌<◌, ◌≤◌, Bool, true, false, cond, ◌&&◌, List, [], ◌∷◌, ◌++◌, length, get_or, map, refl, sym, ◌∙◌, ap, subst, arith, ⊎_elim, length-append}
 use Rattle.std.specs.Prelude.{nat_eq, slice_index_or}
 use Rattle.std.specs.List.{AllByRecursion, flat_map}
@@ -9,8 +9,8 @@ use Rattle.sched_model.specs.Rounds.{round_start}
 use Rattle.sched_model.specs.PlainMode.{hyper, task_at}
 use Rattle.runtime_model.specs.Entries.{Entry, Action, task_ends, beacon, slot, task_starts, cycle, at_tick, by_node, round_at, due_start, due_end}
 use Rattle.runtime_model.specs.Plans.{Plan, place_from}
-use Rattle.sched_model.proofs.Lists.{flat_all, below_all, cond_all}
-use Rattle.runtime_model.proofs.Cycles.{all_map, none, all_at, all_more, all_by_node, At, at_right, RightIn, ends_right, rounds_right, rank, flat_below-suc}
+use Rattle.sched_model.proofs.Lists.{all_both, flat_all, below_all, cond_all}
+use Rattle.runtime_model.proofs.Cycles.{all_map, none, all_at, all_more, all_by_node, At, at_right, RightIn, ends_right, rounds_right, starts_right, rank, flat_below-suc}
 
 abbrev pub Once : List Entry → Entry → Type 0
 Once xs x = (i j : ℕ) → i < length xs → j < length xs → get_or xs i none ≡ x → get_or xs j none ≡ x → i ≡ j
@@ -18,7 +18,7 @@ Once xs x = (i j : ℕ) → i < length xs → j < length xs → get_or xs i none
 abbrev Free : List Entry → Entry → Type 0
 Free xs x = AllByRecursion (λ e. e ≡ x → ⊥) xs
 
-right_part : (xs ys : List Entry) (i : ℕ) → length xs ≤ i → get_or (xs ++ ys) i none ≡ get_or ys (i - length xs) none
+pub right_part : (xs ys : List Entry) (i : ℕ) → length xs ≤ i → get_or (xs ++ ys) i none ≡ get_or ys (i - length xs) none
 right_part xs ys i l = ap (λ z. get_or (xs ++ ys) z none) (let e : i ≡ length xs + (i - length xs) = omega (arith, l) in e) ∙ get_or-append-add xs ys (i - length xs) none
 
 inside : (xs ys : List Entry) (x : Entry) → Free ys x → (k : ℕ) → k < length (xs ++ ys) → get_or (xs ++ ys) k none ≡ x → k < length xs
@@ -92,6 +92,33 @@ start_once nodes p u a =
     (hyper p.mode)
   where
     same : (c d : ℕ) → task_starts c ≡ task_starts d → c ≡ d
+    same c d q = grind (arith, q)
+
+-- ---- ends
+pub end_once : (nodes : ℕ) (p : Plan) (u a : ℕ) → Once (cycle nodes p) (record { tick = u; action = task_ends a })
+unfolding cycle
+end_once nodes p u a =
+    let x : Entry = record { tick = u; action = task_ends a } in
+    let rs = flat_map (round_at p u) (below (length p.schedule.starts)) in
+    let ss = by_node nodes p (due_start p u) task_starts u in
+    let one = λ (v : ℕ) (c : ℕ). cond (nat_eq (task_at p.mode c).node v && due_end p u c) (record { tick = u; action = task_ends c } ∷ []) [] in
+    once_flat (at_tick nodes p) x u
+    (λ t other. all_more (At p t) (λ e. e ≡ x → ⊥) (at_tick nodes p t) (λ e h q. other (sym h.0 ∙ ap (λ (z : Entry). z.tick) q)) (at_right nodes p t))
+    (once_left (by_node nodes p (due_end p u) task_ends u) (rs ++ ss) x
+    (once_flat (λ v. flat_map (one v) (below (length p.mode.tasks))) x (task_at p.mode a).node
+    (λ v other. flat_all (λ e. e ≡ x → ⊥) (one v) (below (length p.mode.tasks)) (below_all (λ c. Free (one v c) x) (length p.mode.tasks)
+    (λ c l. cond_all (λ e. e ≡ x → ⊥) (nat_eq (task_at p.mode c).node v && due_end p u c) (record { tick = u; action = task_ends c } ∷ [])
+    (λ t. ((λ q. other (sym (eqb-true (task_at p.mode c).node v (and_parts (nat_eq (task_at p.mode c).node v) (due_end p u c) t).0) ∙ ap (λ z. (task_at p.mode z).node) (same c a (ap (λ (z : Entry). z.action) q)))), tt)))))
+    (once_flat (one (task_at p.mode a).node) x a
+    (λ c other. cond_all (λ e. e ≡ x → ⊥) (nat_eq (task_at p.mode c).node (task_at p.mode a).node && due_end p u c) (record { tick = u; action = task_ends c } ∷ []) (λ t. ((λ q. other (same c a (ap (λ (z : Entry). z.action) q))), tt)))
+    (once_cond (nat_eq (task_at p.mode a).node (task_at p.mode a).node && due_end p u a) x x) (length p.mode.tasks))
+    nodes)
+    (all_both (λ e. e ≡ x → ⊥) rs ss
+    (all_more (RightIn p u 1) (λ e. e ≡ x → ⊥) rs (λ e h q. omega (arith, h.2, ap (λ (z : Entry). rank z.action) q)) (rounds_right p u))
+    (all_more (RightIn p u 2) (λ e. e ≡ x → ⊥) ss (λ e h q. omega (arith, h.2, ap (λ (z : Entry). rank z.action) q)) (starts_right nodes p u))))
+    (hyper p.mode)
+  where
+    same : (c d : ℕ) → task_ends c ≡ task_ends d → c ≡ d
     same c d q = grind (arith, q)
 
 -- ---- beacons

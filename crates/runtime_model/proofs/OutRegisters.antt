@@ -14,7 +14,7 @@ use Rattle.runtime_model.specs.Outcomes.{PlainEvent, advance, request, restart, 
 use Rattle.runtime_model.specs.Placement.{placed, own_start, run_at, ends_run, ending_run_at}
 use Rattle.runtime_model.specs.Plans.{Plan, offset, node_of}
 use Rattle.runtime_model.specs.Registers.{last_end}
-use Rattle.runtime_model.specs.System.{System, plan_at, body_at, state}
+use Rattle.runtime_model.specs.System.{System, plan_at}
 use Rattle.runtime_model.specs.Timeline.{drains}
 use Rattle.sched_model.proofs.Hyperperiods.{hyper_some}
 use Rattle.runtime_model.proofs.Instances.{same_class, more_turns}
@@ -131,11 +131,11 @@ module _ (y : System) (md a : ℕ) (fit : TaskFits y.nodes (plan_at y md) a) whe
       not_early : (m n : ℕ) → n ≤ m → not (nat_lt m n) ≡ true
       not_early m n l = grind (arith, l)
 
-  whole_turns : (n u : ℕ) → n * H y md + u ≡ n * fit.turns * P (plan_at y md) a + u
+  pub whole_turns : (n u : ℕ) → n * H y md + u ≡ n * fit.turns * P (plan_at y md) a + u
   whole_turns n u = omega (arith, ap (λ x. n * x) fit.whole)
 
   -- the time of an end that ends a run
-  end_time : (n i u k : ℕ) → Is y md i u (task_ends a) → ends_run (plan_at y md) n u a ≡ true → k ≡ ending_run_at (plan_at y md) n u a → n * H y md + u ≡ offset (plan_at y md) a + E (plan_at y md) a + k * P (plan_at y md) a
+  pub end_time : (n i u k : ℕ) → Is y md i u (task_ends a) → ends_run (plan_at y md) n u a ≡ true → k ≡ ending_run_at (plan_at y md) n u a → n * H y md + u ≡ offset (plan_at y md) a + E (plan_at y md) a + k * P (plan_at y md) a
   end_time n i u k is late e =
       let p = plan_at y md in
       let r = entry_right y.nodes p i is.0 in
@@ -292,7 +292,7 @@ module _ (y : System) (md a : ℕ) (fit : TaskFits y.nodes (plan_at y md) a) (so
       let number = (task_at p.mode a).number in
       let k' = run_at p s.turn u a in
       let ins = inputs p s.stay a k' ds in
-      let ans = (body_at y (y.body_of number)).answer (state y (y.body_of number) ds) number ins in
+      let ans = y.answers ds number ins in
       let says = ap (begun_run a k) out' ∙ cond-true (nat_eq a a && nat_eq k' k) (Some ans) None (both_true (nat_eq a a) (nat_eq k' k) (eq-eqb a a refl) (eq-eqb k' k (run_is y md a fit s.turn u k t'))) in
       (ans, found_now (runs v (d ∷ ds) && nat_eq s.stay st) (begun_run a k d.out) (recall v st (begun_run a k) ds) ans c.0 says))
       (λ (before : BeforeSpot s n i).

@@ -90,7 +90,7 @@ module _ (number : ℕ) where
   }
 
   pub plan_right : RightPlan 2 p
-  plan_right = record { valid = valid; rounds = 1; right = right; node = λ a l. subst (λ z. (task_at p.mode z).node < 2) (sym (only_task a l)) (omega arith) }
+  plan_right = record { valid = valid; rounds = 1; right = right; node = λ a l. subst (λ z. (task_at p.mode z).node < 2) (sym (only_task a l)) (omega arith); senders = λ i a l. absurd (omega (arith, l)) }
 
 each : (mode : ℕ) → mode < 2 → RightPlan 2 (plan_at pair mode)
 each zero l = plan_right 0

@@ -14,13 +14,13 @@ pub record Alike (g h : Hyperperiod) : Type 0 where
   pub opening : g.opening ≡ h.opening
   pub drains : drains g.phase ≡ drains h.phase
 
-alike_refl : (g : Hyperperiod) → Alike g g
+pub alike_refl : (g : Hyperperiod) → Alike g g
 alike_refl g = record { mode = refl; opening = refl; drains = refl }
 
-alike_both : (g h k : Hyperperiod) → Alike g h → Alike h k → Alike g k
+pub alike_both : (g h k : Hyperperiod) → Alike g h → Alike h k → Alike g k
 alike_both g h k a b = record { mode = a.mode ∙ b.mode; opening = a.opening ∙ b.opening; drains = a.drains ∙ b.drains }
 
-alike_request : (h : Hyperperiod) (m : ℕ) → Alike (request_in h m) h
+pub alike_request : (h : Hyperperiod) (m : ℕ) → Alike (request_in h m) h
 alike_request h m = by_test h.begun
   where
     by_test : (b : Bool) → Alike (cond b (record h { late = m ∷ h.late }) (record h { early = m ∷ h.early })) h
@@ -40,16 +40,16 @@ beacon_drains steady mode rs = decided_drains mode rs
 beacon_drains (warn m) mode rs = decided_drains mode rs
 beacon_drains (drain m) mode rs = refl
 
-alike_begins : (ms : List Mark) → Alike (timeline_of (begins ∷ ms)).last (timeline_of ms).last
+pub alike_begins : (ms : List Mark) → Alike (timeline_of (begins ∷ ms)).last (timeline_of ms).last
 alike_begins ms = let t = timeline_of ms in record { mode = refl; opening = refl; drains = beacon_drains t.last.phase t.last.mode (t.last.early ++ untaken t.before) }
 
 -- a hyperperiod that does not drain is followed by one of its mode, a draining one by an opening
-follows_opening : (mode : ℕ) (phase : PlainPhase) → (follows mode phase).opening ≡ drains phase
+pub follows_opening : (mode : ℕ) (phase : PlainPhase) → (follows mode phase).opening ≡ drains phase
 follows_opening mode steady = refl
 follows_opening mode (warn m) = refl
 follows_opening mode (drain m) = refl
 
-follows_mode : (mode : ℕ) (phase : PlainPhase) → drains phase ≡ false → (follows mode phase).mode ≡ mode
+pub follows_mode : (mode : ℕ) (phase : PlainPhase) → drains phase ≡ false → (follows mode phase).mode ≡ mode
 follows_mode mode steady e = refl
 follows_mode mode (warn m) e = refl
 follows_mode mode (drain m) e = absurd cc
@@ -60,7 +60,7 @@ follows_drains mode (warn m) e = absurd cc
 follows_drains mode (drain m) e = refl
 
 -- what the timeline sees of the next Advance
-alike_marks : (b c : Bool) (ms : List Mark) → Alike (timeline_of ((cond b (begins ∷ []) [] ++ cond c (ended ∷ []) []) ++ ms)).last (timeline_of (cond c (ended ∷ []) [] ++ ms)).last
+pub alike_marks : (b c : Bool) (ms : List Mark) → Alike (timeline_of ((cond b (begins ∷ []) [] ++ cond c (ended ∷ []) []) ++ ms)).last (timeline_of (cond c (ended ∷ []) [] ++ ms)).last
 alike_marks true true ms = alike_begins (ended ∷ ms)
 alike_marks true false ms = alike_begins ms
 alike_marks false true ms = alike_refl (timeline_of (ended ∷ ms)).last
@@ -105,7 +105,7 @@ abbrev pub Moves : System → List Step → Spot → Type 0
 Moves y ds s = Same y ds s ⊎ (Within y ds s ⊎ Opens y ds s)
 
 -- the next spot, by whether the Advance is a first beacon and whether it turns
-abbrev spot_with : System → List Step → Bool → Bool → Spot
+abbrev pub spot_with : System → List Step → Bool → Bool → Spot
 spot_with y ds b c =
     let s = last_spot ds in
     with_hyper (cond c (turned y s (ended ∷ marks_of ds)) (record { hyper = (timeline_of (marks_of ds)).last; stay = s.stay; turn = s.turn; begin = s.begin; index = next_place ds }))

@@ -8,19 +8,19 @@ use Rattle.sched_model.specs.PlainMode.{hyper, task_at}
 use Rattle.sched_model.specs.Rounds.{round_start}
 use Rattle.sched_model.proofs.Hyperperiods.{hyper_some}
 use Rattle.runtime_model.specs.Timeline.{PlainPhase, drains}
-use Rattle.runtime_model.specs.Plans.{Plan, node_of, offset}
+use Rattle.runtime_model.specs.Plans.{Plan, node_of, offset, sender_of}
 use Rattle.runtime_model.specs.Entries.{Action, task_ends, beacon, slot, task_starts}
 use Rattle.runtime_model.specs.Placement.{placed, own_start, own_slot, run_at, ends_run, ending_run_at, window_at}
 use Rattle.runtime_model.specs.Outcomes.{advance, request, restart, Spot, Step, Outcome, sent, started, begun_run}
 use Rattle.runtime_model.specs.LookingBack.{synced, runs, recall}
 use Rattle.runtime_model.specs.System.{System, plan_at}
-use Rattle.runtime_model.specs.Packets.{packet, sender_of, held}
+use Rattle.runtime_model.specs.Packets.{packet, held}
 use Rattle.runtime_model.specs.History.{history, spot_next, entries, entry_at, performed, finished_or_not, sent_or_not, start_or_not}
-use Rattle.runtime_model.specs.Laws.{RunsEndBeforeSwitch, ReleasesFit, SendersAreSynced}
+use Rattle.runtime_model.specs.Laws.{RunsEndBeforeSwitch, ReleasesFit, SendersAreSynced, OneRelease}
 use Rattle.runtime_model.proofs.Cycles.{has_beacon, entry_right, RightAt}
 use Rattle.runtime_model.proofs.Spots.{Same, Within, Opens, Moves, moves, stands}
 use Rattle.runtime_model.proofs.Instances.{ends_in_time}
-use Rattle.runtime_model.proofs.Times.{task_fits, is_release}
+use Rattle.runtime_model.proofs.Times.{task_fits, is_release, one_release}
 use Rattle.runtime_model.proofs.Registers.{cond_some}
 use Rattle.runtime_model.proofs.OutRegisters.{Is, H, P, E, in_cycle, run_is}
 use Rattle.runtime_model.proofs.InRegisters.{start_time}
@@ -126,6 +126,9 @@ runs_end_before_switch y es lost v b k ins x ok out =
 
 pub releases_fit : ReleasesFit
 releases_fit nodes p j i ok c = is_release nodes p ok j i c
+
+pub releases_are_one : OneRelease
+releases_are_one nodes p j i r ok c is = one_release nodes p ok j i r c is
 
 -- ---- sending
 

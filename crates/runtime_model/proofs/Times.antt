@@ -158,6 +158,22 @@ module _ (nodes : ℕ) (p : Plan) (ok : RightPlan nodes p) where
         closes_after = omega (arith, ints, x.3, times_at_most (pos x.1) y per k, sum, nh);
       }
 
+  -- two releases are less than a period apart
+  not_above : (j i : ℕ) (r q : ℤ) → Carried p j i → IsRelease p j i r → IsRelease p j i q → r ≤ℤ q
+  not_above j i r q c a b =
+      let per = (message_at p.mode i).period in
+      let x = a.multiple.0 in
+      let z = b.multiple.0 in
+      let thin = narrow i c.1 in
+      let k = at_most_from_times x z per (omega (arith, ints, a.opens_before, b.closes_after, a.multiple.1, b.multiple.1, thin, ok.valid.round, sum-times z (pos 1) (pos per))) in
+      omega (arith, ints, times_at_most x z per k, a.multiple.1, b.multiple.1)
+
+  -- the release is the only one
+  pub one_release : (j i : ℕ) (r : ℤ) → Carried p j i → IsRelease p j i r → r ≡ release p j i
+  one_release j i r c a =
+      let own = is_release j i c in
+      same_in _ _ (omega (arith, ints, not_above j i r (release p j i) c a own, not_above j i (release p j i) r c own a))
+
   last_closes : (i : ℕ) → i < length p.mode.messages → closes p.schedule i <ℤ pos ((message_at p.mode i).period + hyper p.mode)
   last_closes i l =
       let b = ok.valid.consumer i l in

@@ -4,13 +4,13 @@ use Rattle.std.specs.List.{flat_map}
 use Rattle.sched_model.specs.Numbers.{below}
 use Rattle.sched_model.specs.PlainMode.{hyper, task_at}
 use Rattle.runtime_model.specs.Timeline.{steady, Hyperperiod, Mark, asked, begins, ended, timeline_of, fresh}
-use Rattle.runtime_model.specs.Plans.{Plan, first_round, node_of}
+use Rattle.runtime_model.specs.Plans.{Plan, first_round, node_of, sender_of}
 use Rattle.runtime_model.specs.Entries.{Entry, Action, task_ends, beacon, slot, task_starts, cycle}
 use Rattle.runtime_model.specs.Placement.{placed, own_start, run_at, ends_run, ending_run_at, window_at}
 use Rattle.runtime_model.specs.Outcomes.{PlainEvent, advance, request, restart, PlainBeacon, beacon_of, Spot, Outcome, beaconed, sent, silent, started, off, finished, void, requested, restarted, Step, begun_run}
 use Rattle.runtime_model.specs.LookingBack.{runs, recall}
-use Rattle.runtime_model.specs.System.{System, body_at, plan_at, state}
-use Rattle.runtime_model.specs.Packets.{reached, sender_of, packet, takes}
+use Rattle.runtime_model.specs.System.{System, plan_at}
+use Rattle.runtime_model.specs.Packets.{reached, packet, takes}
 use Rattle.runtime_model.specs.Inputs.{inputs}
 
 -- ---- what an entry does
@@ -31,14 +31,14 @@ abbrev pub finished_or_not : ℕ → ℕ → ℕ → Option ℤ → Outcome
 finished_or_not v a k None = void v a
 finished_or_not v a k (Some x) = finished v a k x
 
--- a start of task a at tick u, where it is performed or not: it answers by its body's state and its inputs
+-- a start of task a at tick u, where it is performed or not: its body answers to its inputs
 abbrev pub start_or_not : System → Plan → Spot → List Step → ℕ → ℕ → Bool → Outcome
 start_or_not y p s ds a u false = off (node_of p a) a
 start_or_not y p s ds a u true =
     let number = (task_at p.mode a).number in
     let k = run_at p s.turn u a in
     let ins = inputs p s.stay a k ds in
-    started (node_of p a) a k ins ((body_at y (y.body_of number)).answer (state y (y.body_of number) ds) number ins)
+    started (node_of p a) a k ins (y.answers ds number ins)
 
 -- what an Advance with this lost set does by the entry at tick u: a start is performed where it is placed and its node runs,
 -- and an end where that run's start was performed and the node is unbroken since
@@ -143,3 +143,8 @@ outcome_of y es e = (step_of y e (history y es)).out
 -- the tick of a step from the beginning of the world: that of the last Advance
 abbrev pub moment : System → Step → ℕ
 moment y d = d.spot.begin + (entry_at y d.spot).tick
+
+-- the tick of the last Advance, 0 before the first
+abbrev pub now_after : System → List Step → ℕ
+now_after y [] = 0
+now_after y (d ∷ ds) = moment y d

@@ -6,13 +6,14 @@ pub mod Placement
 pub mod Outcomes
 pub mod LookingBack
 pub mod System
+pub mod Bodies
 pub mod Packets
 pub mod Inputs
 pub mod History
 pub mod NodeKinds
 pub mod Registers
 pub mod NodeTables
-pub mod World
+pub mod HostOfEvents
 pub mod Script
 pub mod Laws
 pub mod Rows

@@ -3,9 +3,9 @@ use Rattle.std.specs.Prelude.{ℕ, suc, ◌+◌, Bool, cond, ◌||◌, nat_eq, L
 use Rattle.sched_model.specs.Numbers.{below, natural}
 use Rattle.sched_model.specs.PlainMode.{hyper, task_at, message_at}
 use Rattle.sched_model.specs.Rounds.{round_start}
-use Rattle.runtime_model.specs.Plans.{Plan, offset, node_of, place_from}
+use Rattle.runtime_model.specs.Plans.{Plan, offset, node_of, place_from, sender_of}
 use Rattle.runtime_model.specs.Placement.{release}
-use Rattle.runtime_model.specs.Packets.{sender_of, takes_on}
+use Rattle.runtime_model.specs.Packets.{takes_on}
 
 -- a task of the node
 pub record PlainOwnTask : Type 0 where

@@ -1,8 +1,8 @@
 -- What is held, sent and taken
-use Rattle.std.specs.Prelude.{ℕ, ◌/◌, ◌%◌, ◌^◌, Bool, cond, not, ◌&&◌, ◌||◌, nat_eq, List, [], ◌∷◌, map, slice_index_or, Option, Some, None, ℤ}
+use Rattle.std.specs.Prelude.{ℕ, ◌/◌, ◌%◌, ◌^◌, Bool, cond, not, ◌&&◌, ◌||◌, nat_eq, List, [], ◌∷◌, map, Option, Some, None, ℤ}
 use Rattle.std.specs.List.{list_any}
 use Rattle.sched_model.specs.PlainMode.{message_at}
-use Rattle.runtime_model.specs.Plans.{Plan, node_of}
+use Rattle.runtime_model.specs.Plans.{Plan, node_of, sender_of}
 use Rattle.runtime_model.specs.Placement.{placed, own_slot, window_at}
 use Rattle.runtime_model.specs.Outcomes.{Spot, Step, ended_run}
 use Rattle.runtime_model.specs.LookingBack.{synced, recall}
@@ -25,10 +25,6 @@ both (Some x) (Some ys) = Some (x ∷ ys)
 abbrev pub all_present : List (Option ℤ) → Option (List ℤ)
 all_present [] = Some []
 all_present (x ∷ xs) = both x (all_present xs)
-
--- the node with the producers of message i
-abbrev pub sender_of : Plan → ℕ → ℕ
-sender_of p i = node_of p (slice_index_or (message_at p.mode i).from 0 0)
 
 -- a consumer of message i is on node v
 abbrev pub takes_on : Plan → ℕ → ℕ → Bool

@@ -1,5 +1,5 @@
 -- Modes with their schedules, and right plans
-use Rattle.std.specs.Prelude.{◌≡◌, ℕ, zero, suc, ◌+◌, ◌<◌, ◌≤◌, cond, nat_eq, true, List, [], ◌∷◌, length, slice_index_or, map}
+use Rattle.std.specs.Prelude.{◌≡◌, ℕ, zero, suc, ◌+◌, ◌<◌, ◌≤◌, cond, nat_eq, true, List, [], ◌∷◌, length, slice_index_or, map, All, Contains}
 use Rattle.sched_model.specs.declared.schedule.Schedule.{Schedule}
 use Rattle.app_graph.specs.declared.mode_set.ModeSet.{ModeSet}
 use Rattle.sched_model.specs.Numbers.{below, has, natural}
@@ -53,12 +53,28 @@ abbrev pub place_from : ℕ → List PlainMessage → ℕ → ℕ
 place_from n [] number = n
 place_from n (m ∷ ms) number = cond (nat_eq m.number number) n (place_from (suc n) ms number)
 
--- a valid mode of a set with so many nodes, with a right schedule
+-- the node with the producers of message i
+abbrev pub sender_of : Plan → ℕ → ℕ
+sender_of p i = node_of p (slice_index_or (message_at p.mode i).from 0 0)
+
+-- a valid mode of a set with so many nodes, with a right schedule. All producers of a message are on one node
 pub record RightPlan (nodes : ℕ) (p : Plan) : Type 0 where
   pub valid : IsValid p.mode
   pub rounds : ℕ
   pub right : IsSchedule p.mode rounds p.schedule
   pub node : (a : ℕ) → a < length p.mode.tasks → (task_at p.mode a).node < nodes
+  pub senders : (i a : ℕ) → i < length p.mode.messages → Contains (message_at p.mode i).from a → node_of p a ≡ sender_of p i
+
+-- one schedule for each mode of the set, which is right for it
+pub record AreSchedules (set : ModeSet) (schedules : List Schedule) : Type 0 where
+  pub one_each : length schedules ≡ length set.modes
+  pub right : (i : ℕ) → i < length set.modes → let s = slice_index_or schedules i no_schedule in IsSchedule (plain_at set i) (length s.starts) s
+
+-- schedules that a host can serve: of one to eight modes, with at most 256 rounds each
+pub record FewRounds (schedules : List Schedule) : Type 0 where
+  pub some : 1 ≤ length schedules
+  pub modes : length schedules ≤ 8
+  pub rounds : All (λ count. count ≤ 256) (round_counts schedules)
 
 -- a set within its limits, with one right schedule for each of its modes
 pub record RightPlans (set : ModeSet) (schedules : List Schedule) : Type 0 where

@@ -42,12 +42,18 @@ abbrev pub values_of : Option (ℕ × List ℤ) → Option (List ℤ)
 values_of None = None
 values_of (Some z) = Some (z.1)
 
--- what an event does to the run in progress of node v: a start begins one, which keeps its task and what it will answer, and an end ends it
-abbrev pub last_run : ℕ → Outcome → Option (Option (ℕ × ℤ))
-last_run v (started w a k ins x) = cond (nat_eq w v) (Some (Some (a, x))) None
+-- a run in progress: its task, its number in the stay and what it will answer
+pub record RunSeen : Type 0 where
+  pub task : ℕ
+  pub run : ℕ
+  pub value : ℤ
+
+-- what an event does to the run in progress of node v: a start begins one, and an end ends it
+abbrev pub last_run : ℕ → Outcome → Option (Option RunSeen)
+last_run v (started w a k ins x) = cond (nat_eq w v) (Some (Some (record { task = a; run = k; value = x }))) None
 last_run v (finished w a k x) = cond (nat_eq w v) (Some None) None
 last_run v o = None
 
 -- the run in progress of node v
-abbrev pub running : ℕ → ℕ → List Step → Option (ℕ × ℤ)
+abbrev pub running : ℕ → ℕ → List Step → Option RunSeen
 running v stay ds = flat (recall v stay (last_run v) ds)

@@ -7,10 +7,11 @@ use Rattle.runtime_model.specs.Timeline.{steady}
 use Rattle.runtime_model.specs.HostCalls.{host_after}
 use Rattle.runtime_model.specs.Plans.{Plan}
 use Rattle.runtime_model.specs.Outcomes.{PlainEvent, advance, request, restart, Outcome, beaconed, sent, silent, started, off, finished, void, requested, restarted}
-use Rattle.runtime_model.specs.System.{Body, System}
+use Rattle.runtime_model.specs.System.{System}
+use Rattle.runtime_model.specs.Bodies.{Body, Bodies, by_bodies}
 use Rattle.runtime_model.specs.History.{history}
-use Rattle.runtime_model.specs.Script.{ScriptLine, go, lose, asks, restarts_node, until_beacon, told}
-use Rattle.runtime_model.specs.World.{schedule_counts, calls_of}
+use Rattle.runtime_model.specs.Script.{ScriptLine, go, lose, asks, restarts_node, until_beacon, Told, told}
+use Rattle.runtime_model.specs.HostOfEvents.{schedule_counts, calls_of}
 use Rattle.runtime_model.specs.NodeTables.{part_of}
 use Rattle.runtime_model.specs.Laws.{PlansAreRight}
 
@@ -51,19 +52,33 @@ single_plan slots number node = record {
 abbrev pub tally : Body
 tally = record { state = first_numbers; answer = answer; next = numbers_after_fire }
 
+-- all tasks have one body
+abbrev pub tallies : Bodies
+tallies = record { each = tally ∷ []; place = λ a. 0 }
+
 -- the loop, and beside it an idle mode whose one task blinks on node 2
+abbrev pub two_plans : List Plan
+two_plans = loop_plan ∷ single_plan 2 3 2 ∷ []
+
 abbrev pub two : System
-two = record { nodes = 3; host = 0; plans = loop_plan ∷ single_plan 2 3 2 ∷ []; bodies = tally ∷ []; body_of = λ a. 0 }
+two = record { nodes = 3; host = 0; plans = two_plans; answers = by_bodies two_plans tallies }
 
 -- two modes of one task each, both on node 1
+abbrev pub pair_plans : List Plan
+pair_plans = single_plan 1 0 1 ∷ single_plan 1 1 1 ∷ []
+
 abbrev pub pair : System
-pair = record { nodes = 2; host = 0; plans = single_plan 1 0 1 ∷ single_plan 1 1 1 ∷ []; bodies = tally ∷ []; body_of = λ a. 0 }
+pair = record { nodes = 2; host = 0; plans = pair_plans; answers = by_bodies pair_plans tallies }
 
 -- the plans of `pair` are right: what the laws suppose can be met
 abbrev pub PairIsRight : Type 0
 PairIsRight = PlansAreRight pair
 
 -- ---- events and lines
+
+-- at a tick, in this mode, this happened
+abbrev pub line : ℕ → ℕ → Outcome → Told
+line moment mode out = record { moment = moment; mode = mode; out = out }
 
 -- the events of a line that waits for no beacon
 abbrev pub events_of_line : ScriptLine → List PlainEvent
@@ -92,22 +107,22 @@ draining_beacon round mode hs = beaconed (record { round = round; mode = mode; t
 -- node 1 misses a beacon: it does not send in that round, and the controller runs without the input
 abbrev pub LostBeacon : Type 0
 LostBeacon = told two (events_of (go 6 ∷ lose 2 ∷ go 9 ∷ [])) ≡
-    (0, opening_beacon 1 0 (0 ∷ 1 ∷ 2 ∷ []))
-    ∷ (0, silent 1)
-    ∷ (20, off 2 2)
-    ∷ (21, void 2 2)
-    ∷ (21, started 1 0 0 [] (pos 1))
-    ∷ (23, finished 1 0 0 (pos 1))
-    ∷ (23, opening_beacon 2 0 (0 ∷ 2 ∷ []))
-    ∷ (23, silent 0)
-    ∷ (43, started 0 1 0 (None ∷ []) (pos 1))
-    ∷ (48, finished 0 1 0 (pos 1))
-    ∷ (100, steady_beacon 1 0 (0 ∷ 1 ∷ 2 ∷ []))
-    ∷ (100, sent 0 1 0 (pos 1 ∷ []) (2 ∷ []))
-    ∷ (120, started 2 2 0 (Some (pos 1) ∷ []) (pos 2))
-    ∷ (121, finished 2 2 0 (pos 2))
-    ∷ (121, started 1 0 1 [] (pos 2))
-    ∷ (123, finished 1 0 1 (pos 2))
+    line 0 0 (opening_beacon 1 0 (0 ∷ 1 ∷ 2 ∷ []))
+    ∷ line 0 0 (silent 1)
+    ∷ line 20 0 (off 2 2)
+    ∷ line 21 0 (void 2 2)
+    ∷ line 21 0 (started 1 0 0 [] (pos 1))
+    ∷ line 23 0 (finished 1 0 0 (pos 1))
+    ∷ line 23 0 (opening_beacon 2 0 (0 ∷ 2 ∷ []))
+    ∷ line 23 0 (silent 0)
+    ∷ line 43 0 (started 0 1 0 (None ∷ []) (pos 1))
+    ∷ line 48 0 (finished 0 1 0 (pos 1))
+    ∷ line 100 0 (steady_beacon 1 0 (0 ∷ 1 ∷ 2 ∷ []))
+    ∷ line 100 0 (sent 0 1 0 (pos 1 ∷ []) (2 ∷ []))
+    ∷ line 120 0 (started 2 2 0 (Some (pos 1) ∷ []) (pos 2))
+    ∷ line 121 0 (finished 2 2 0 (pos 2))
+    ∷ line 121 0 (started 1 0 1 [] (pos 2))
+    ∷ line 123 0 (finished 1 0 1 (pos 2))
     ∷ []
 
 abbrev pub change_events : List PlainEvent
@@ -116,22 +131,22 @@ change_events = events_of (go 2 ∷ asks 1 ∷ go 14 ∷ lose 4 ∷ go 3 ∷ los
 -- a change to the idle mode, of which node 2 misses the beacons up to the draining's second: from the eighteenth line on
 abbrev pub ModeChange : Type 0
 ModeChange = drop 17 (told two change_events) ≡
-    (123, steady_beacon 2 1 (0 ∷ 1 ∷ []))
-    ∷ (123, sent 1 0 1 (pos 2 ∷ []) (0 ∷ []))
-    ∷ (143, started 0 1 1 (Some (pos 2) ∷ []) (pos 4))
-    ∷ (148, finished 0 1 1 (pos 4))
-    ∷ (200, draining_beacon 1 1 (0 ∷ 1 ∷ []))
-    ∷ (200, sent 0 1 1 (pos 4 ∷ []) [])
-    ∷ (220, off 2 2)
-    ∷ (221, void 2 2)
-    ∷ (221, off 1 0)
-    ∷ (223, void 1 0)
-    ∷ (223, draining_beacon 2 1 (0 ∷ 1 ∷ 2 ∷ []))
-    ∷ (223, silent 0)
-    ∷ (243, off 0 1)
-    ∷ (248, void 0 1)
-    ∷ (300, opening_beacon 3 1 (0 ∷ 1 ∷ 2 ∷ []))
-    ∷ (300, started 2 0 0 [] (pos 1))
+    line 123 0 (steady_beacon 2 1 (0 ∷ 1 ∷ []))
+    ∷ line 123 0 (sent 1 0 1 (pos 2 ∷ []) (0 ∷ []))
+    ∷ line 143 0 (started 0 1 1 (Some (pos 2) ∷ []) (pos 4))
+    ∷ line 148 0 (finished 0 1 1 (pos 4))
+    ∷ line 200 0 (draining_beacon 1 1 (0 ∷ 1 ∷ []))
+    ∷ line 200 0 (sent 0 1 1 (pos 4 ∷ []) [])
+    ∷ line 220 0 (off 2 2)
+    ∷ line 221 0 (void 2 2)
+    ∷ line 221 0 (off 1 0)
+    ∷ line 223 0 (void 1 0)
+    ∷ line 223 0 (draining_beacon 2 1 (0 ∷ 1 ∷ 2 ∷ []))
+    ∷ line 223 0 (silent 0)
+    ∷ line 243 0 (off 0 1)
+    ∷ line 248 0 (void 0 1)
+    ∷ line 300 1 (opening_beacon 3 1 (0 ∷ 1 ∷ 2 ∷ []))
+    ∷ line 300 1 (started 2 0 0 [] (pos 1))
     ∷ []
 
 -- the host after that change's events: it is in the first round of the idle mode's opening hyperperiod
@@ -142,41 +157,41 @@ ModeChangeHost = host_after (schedule_counts two) (calls_of two (history two cha
 -- a node that misses the warning runs the old mode on, and stops where it hears the draining
 abbrev pub MissedWarning : Type 0
 MissedWarning = told pair (events_of (go 3 ∷ asks 1 ∷ lose 2 ∷ go 8 ∷ [])) ≡
-    (0, opening_beacon 1 0 (0 ∷ 1 ∷ []))
-    ∷ (0, started 1 0 0 [] (pos 1))
-    ∷ (1, finished 1 0 0 (pos 1))
-    ∷ (1, requested 1)
-    ∷ (100, steady_beacon 1 1 (0 ∷ []))
-    ∷ (100, started 1 0 1 [] (pos 2))
-    ∷ (101, finished 1 0 1 (pos 2))
-    ∷ (200, draining_beacon 1 1 (0 ∷ 1 ∷ []))
-    ∷ (200, off 1 0)
-    ∷ (201, void 1 0)
-    ∷ (300, opening_beacon 2 1 (0 ∷ 1 ∷ []))
-    ∷ (300, started 1 0 0 [] (pos 1))
-    ∷ (301, finished 1 0 0 (pos 1))
+    line 0 0 (opening_beacon 1 0 (0 ∷ 1 ∷ []))
+    ∷ line 0 0 (started 1 0 0 [] (pos 1))
+    ∷ line 1 0 (finished 1 0 0 (pos 1))
+    ∷ line 1 0 (requested 1)
+    ∷ line 100 0 (steady_beacon 1 1 (0 ∷ []))
+    ∷ line 100 0 (started 1 0 1 [] (pos 2))
+    ∷ line 101 0 (finished 1 0 1 (pos 2))
+    ∷ line 200 0 (draining_beacon 1 1 (0 ∷ 1 ∷ []))
+    ∷ line 200 0 (off 1 0)
+    ∷ line 201 0 (void 1 0)
+    ∷ line 300 1 (opening_beacon 2 1 (0 ∷ 1 ∷ []))
+    ∷ line 300 1 (started 1 0 0 [] (pos 1))
+    ∷ line 301 1 (finished 1 0 0 (pos 1))
     ∷ []
 
 -- a node restarts before a beacon, hears it, and has nothing to send: from the seventh line on
 abbrev pub RestartBeforeBeacon : Type 0
 RestartBeforeBeacon = drop 6 (told two (events_of (go 6 ∷ restarts_node 1 ∷ restarts_node 1 ∷ go 2 ∷ []))) ≡
-    (23, restarted 1) ∷ (23, restarted 1) ∷ (23, opening_beacon 2 0 (0 ∷ 1 ∷ 2 ∷ [])) ∷ (23, silent 0) ∷ []
+    line 23 0 (restarted 1) ∷ line 23 0 (restarted 1) ∷ line 23 0 (opening_beacon 2 0 (0 ∷ 1 ∷ 2 ∷ [])) ∷ line 23 0 (silent 0) ∷ []
 
 -- the same where it restarts after the beacon
 abbrev pub RestartAfterBeacon : Type 0
 RestartAfterBeacon = drop 6 (told two (events_of (go 7 ∷ restarts_node 1 ∷ restarts_node 1 ∷ go 1 ∷ []))) ≡
-    (23, opening_beacon 2 0 (0 ∷ 1 ∷ 2 ∷ [])) ∷ (23, restarted 1) ∷ (23, restarted 1) ∷ (23, silent 0) ∷ []
+    line 23 0 (opening_beacon 2 0 (0 ∷ 1 ∷ 2 ∷ [])) ∷ line 23 0 (restarted 1) ∷ line 23 0 (restarted 1) ∷ line 23 0 (silent 0) ∷ []
 
 -- of two requests the later one counts: the last line
 abbrev pub LatestRequest : Type 0
-LatestRequest = drop 12 (told two (events_of (go 2 ∷ asks 1 ∷ asks 0 ∷ go 9 ∷ []))) ≡ (100, steady_beacon 1 0 (0 ∷ 1 ∷ 2 ∷ [])) ∷ []
+LatestRequest = drop 12 (told two (events_of (go 2 ∷ asks 1 ∷ asks 0 ∷ go 9 ∷ []))) ≡ line 100 0 (steady_beacon 1 0 (0 ∷ 1 ∷ 2 ∷ [])) ∷ []
 
 abbrev pub LatestRequestExchanged : Type 0
-LatestRequestExchanged = drop 12 (told two (events_of (go 2 ∷ asks 0 ∷ asks 1 ∷ go 9 ∷ []))) ≡ (100, steady_beacon 1 1 (0 ∷ 1 ∷ 2 ∷ [])) ∷ []
+LatestRequestExchanged = drop 12 (told two (events_of (go 2 ∷ asks 0 ∷ asks 1 ∷ go 9 ∷ []))) ≡ line 100 0 (steady_beacon 1 1 (0 ∷ 1 ∷ 2 ∷ [])) ∷ []
 
 -- the part of node 1: it sends `m1` in the second round's first slot, and has no task in the idle mode
 abbrev pub NodePart : Type 0
-NodePart = part_of two.plans 1 ≡ record {
+NodePart = part_of two_plans 1 ≡ record {
   node = 1;
   modes =
       record {

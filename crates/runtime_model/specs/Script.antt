@@ -46,6 +46,12 @@ LeadTo y (l ∷ ls) es fs = (mid : List PlainEvent) × Makes y l es mid × LeadT
 abbrev pub Spells : System → List ScriptLine → List PlainEvent → Type 0
 Spells y ls es = LeadTo y ls [] es
 
--- what happened, in order, with the ticks: the trace is the text of these and the last line
-abbrev pub told : System → List PlainEvent → List (ℕ × Outcome)
-told y es = reverse (map (λ d. (moment y d, d.out)) (history y es))
+-- what is told of an event: its tick, its mode and what it did
+pub record Told : Type 0 where
+  pub moment : ℕ
+  pub mode : ℕ
+  pub out : Outcome
+
+-- what happened, in order: the trace is the text of these and the last line
+abbrev pub told : System → List PlainEvent → List Told
+told y es = reverse (map (λ d. record { moment = moment y d; mode = d.spot.hyper.mode; out = d.out }) (history y es))

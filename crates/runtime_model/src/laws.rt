@@ -1,7 +1,12 @@
 //! Laws of the runtime. Each holds for every list of events, or of calls.
 
 ghost use Rattle.std.specs.Prelude.{List, ℤ};
-ghost use Rattle.runtime_model.specs.Laws.{BeaconGap, HostsFollowEvents, HostsKeepTime, InputsHold, KindsFollow, NothingIsMissing, OneRunAtATime, RecallLooksBack, RegistersHold, ReleasesFit, RunsEndBeforeSwitch, SendersAreSynced, SettledNodesKnow};
+ghost use Rattle.runtime_model.specs.Laws.{BeaconGap, BeaconsInOrder, EndsFollowRuns, EntriesAreCycles, HostsFollowEvents, HostsKeepTime, InputsHold, KeptSetsHaveRightPlans, KindsFollow, NothingIsMissing, OneRelease, OneRunAtATime, RecallLooksBack, RegistersHold, ReleasesFit, RoundsAreBegun, RunsEndBeforeSwitch, SendersAreSynced, SettledNodesKnow, SlotsFollowBeacons, StartsArePlaced, StaysAreApart, TicksRise, ValuesAreProduced};
+
+/// A set that keeps the rules has right plans with each right schedule of its modes.
+pub fn kept_sets_have_right_plans()
+    ensures { KeptSetsHaveRightPlans }
+{}
 
 /// A host that stands for a list of its calls stands for the list with one more, whose condition holds.
 pub fn hosts_keep_time()
@@ -67,4 +72,55 @@ pub fn settled_nodes_know()
 /// Where nothing is lost and nobody restarts, every run that is started has all its inputs.
 pub fn nothing_is_missing()
     ensures { NothingIsMissing }
+{}
+
+/// The host is in a round exactly where the first beacon of the hyperperiod was sent.
+pub fn rounds_are_begun()
+    ensures { RoundsAreBegun }
+{}
+
+/// Ticks never fall, and no step moves on by more than a hyperperiod.
+pub fn ticks_rise()
+    ensures { TicksRise }
+{}
+
+/// The beacons come in the order of the rounds, hyperperiod by hyperperiod.
+pub fn beacons_in_order()
+    ensures { BeaconsInOrder }
+{}
+
+/// A slot follows the beacon of its round at the same tick.
+pub fn slots_follow_beacons()
+    ensures { SlotsFollowBeacons }
+{}
+
+/// An end is performed exactly where the run in progress is of its task, and with that run's number and value.
+pub fn ends_follow_runs()
+    ensures { EndsFollowRuns }
+{}
+
+/// Nothing of an earlier stay is found by looking back in another.
+pub fn stays_are_apart()
+    ensures values { StaysAreApart ℤ }
+    ensures packets { StaysAreApart (List ℤ) }
+{}
+
+/// The entries that were done are the cycles of the timeline, one after the other.
+pub fn entries_are_cycles()
+    ensures { EntriesAreCycles }
+{}
+
+/// A slot has one release.
+pub fn releases_are_one()
+    ensures { OneRelease }
+{}
+
+/// A start that is performed is placed, and of the run of its tick.
+pub fn starts_are_placed()
+    ensures { StartsArePlaced }
+{}
+
+/// What was taken in a window are the values of the producers' runs of the same number.
+pub fn values_are_produced()
+    ensures { ValuesAreProduced }
 {}

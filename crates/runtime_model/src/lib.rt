@@ -1,4 +1,4 @@
-//! The runtime: the timeline of modes, the entries of a cycle, what each event of a list does, and what hosts, nodes and worlds stand for.
+//! The runtime: the timeline of modes, the entries of a cycle, what each event of a list does, and the part of the plans that a node keeps.
 #![tactic(auto)]
 
 pub mod laws;

@@ -14,7 +14,7 @@ use Rattle.sched_model.specs.RightSchedule.{IsSchedule}
 use Rattle.sched_model.proofs.TaskNumbers.{few_modes}
 use Rattle.proof_tree.specs.Accepting.{IsRight, doc_mode, doc_modes}
 use Rattle.runtime_model.specs.Plans.{no_schedule}
-use Rattle.node_tables.specs.Parts.{AreSchedules}
+use Rattle.runtime_model.specs.Plans.{AreSchedules}
 use Rattle.ttw_program.specs.PlanFiles.{LacksFirst}
 use Rattle.ttw_program.specs.Tables.{hex_line, hex_lines, hex_text}
 

@@ -3,7 +3,7 @@
 ghost use Rattle.std.specs.Prelude.{◌≡◌, ◌≤◌, ◌<◌, ◌++◌, length, position, IfOk, IsErrOf, OnOk};
 ghost use Rattle.std.specs.Str.{bytes_eq};
 ghost use Rattle.app_graph.specs.Validation.{KeepsRules};
-ghost use Rattle.node_tables.specs.Parts.{AreSchedules};
+ghost use Rattle.runtime_model.specs.Plans.{AreSchedules};
 ghost use Rattle.proof_tree.specs.Accepting.{IsRight, doc_modes};
 ghost use Rattle.std.specs.List.{AllZip};
 ghost use Rattle.ttw_io.specs.Outside.{Rose, OfFile};

@@ -1,5 +1,5 @@
 use Rattle.std.proofs.Common.{length, ap, arith}
-use Rattle.node_tables.proofs.WholeTables.{rounds_few}
+use Rattle.runtime_model.proofs.RightSets.{rounds_few}
 use Rattle.node_tables.proofs.parts.round_count.Goals as goal
 
 pub overflow_cast-result : goal.overflow_cast-result
