@@ -1,5 +1,5 @@
 -- What a node finds in its part of right plans
-use Rattle.std.proofs.Common.{◌≡◌, ◌≢◌, ℕ, zero, suc, ◌+◌, ◌<◌, ◌≤◌, Bool, true, false, cond, not, ◌&&◌, nat_eq, nat_le, nat_lt, eqb, List, [], ◌∷◌, ◌++◌, length, get_or, map, filter, Contains, Option, Some, None, ⊎_elim, refl, sym, ◌∙◌, ap, subst, arith, pos, unwrap_or}
+use Rattle.std.proofs.Common.{◌≡◌, ◌≢◌, ℕ, zero, suc, ◌+◌, ◌<◌, ◌≤◌, Bool, true, false, cond, not, ◌&&◌, nat_eq, nat_le, nat_lt, eqb, List, [], ◌∷◌, ◌++◌, length, get_or, map, filter, Contains, Option, Some, None, ⊎_elim, refl, sym, ◌∙◌, ap, subst, arith, pos, unwrap_or, All}
 use Rattle.std.specs.List.{AllByRecursion, AllPairs, find, position, position_or_len}
 use Rattle.std.proofs.lemmas.Bool.{cases_lt, cond-false, cond-true, eq-eqb, eqb-true, lt-ltb}
 use Rattle.std.proofs.lemmas.Bool.Decides.{nat_tests}
@@ -10,8 +10,8 @@ use Rattle.app_graph.specs.declared.mode_set.ModeSet.{ModeSet}
 use Rattle.app_graph.specs.Validation.{KeepsRules}
 use Rattle.sched_model.specs.declared.schedule.Schedule.{Schedule}
 use Rattle.sched_model.specs.Numbers.{below}
-use Rattle.sched_model.specs.PlainMode.{PlainMode, message_at, plain_at, task_at}
-use Rattle.sched_model.specs.RightSchedule.{IsSchedule}
+use Rattle.sched_model.specs.PlainMode.{PlainMessage, PlainMode, message_at, no_message, plain_at, task_at}
+use Rattle.sched_model.specs.RightSchedule.{IsMessage, IsSchedule}
 use Rattle.sched_model.specs.Rounds.{round_start}
 use Rattle.sched_model.specs.TimeLimits.{IsTime}
 use Rattle.sched_model.proofs.Lists.{get_or-below, get_or-map_below, length-below}
@@ -21,7 +21,7 @@ use Rattle.runtime_model.specs.Placement.{release}
 use Rattle.runtime_model.specs.Plans.{AreSchedules, Plan, first_round, no_schedule, node_of, place_from, plan_of, plans_of}
 use Rattle.runtime_model.specs.System.{no_plan}
 use Rattle.runtime_model.proofs.RightSets.{plan_count}
-use Rattle.runtime_model.proofs.Times.{natural_is}
+use Rattle.runtime_model.proofs.Times.{natural_is, place_is}
 use Rattle.node_tables.specs.declared.tables.ModeTable.{ModeTable}
 use Rattle.node_tables.specs.declared.tables.OwnMessage.{OwnMessage}
 use Rattle.node_tables.specs.declared.tables.OwnRound.{OwnRound}
@@ -33,7 +33,7 @@ use Rattle.node_tables.proofs.PartRanges.{contained_all, kept_all, map_all, mode
 use Rattle.node_tables.proofs.PlainParts.{kept}
 use Rattle.node_core.specs.Laws.{PartsLookUp}
 use Rattle.node_core.specs.Lookup.{consumer_place, has_round, mode_at, mode_of_round, no_mode, no_round, own_message, own_slot, own_task, round_at}
-use Rattle.node_core.specs.PartLookups.{PartLooksUp, consumers_on, kept_message, kept_task, table_at}
+use Rattle.node_core.specs.PartLookups.{PartLooksUp, consumers_on, kept_message, kept_task, message_in_slot, table_at}
 use Rattle.node_core.proofs.PartLimits as limits
 use Rattle.node_core.proofs.SearchLemmas.{each_is_found, none_among}
 
@@ -213,6 +213,18 @@ module _ (set : ModeSet) (i : ℕ) (keeps : KeepsRules set) (l : i < length set.
   start_is : (j : ℕ) → j < length s.starts → (typed_round (plain_round j)).start ≡ round_start s j
   start_is j h = natural_is (round_start s j) (All-get_or IsTime s.starts j (pos 0) h (part.time set i keeps l few s right v).starts).0
 
+  number_in : (j k : ℕ) → j < length s.starts → k < length (table_at p j) →
+      (message_in_slot p j k < length m.messages) × ((message_at m (message_in_slot p j k)).number ≡ get_or (table_at p j) k 0)
+  number_in j k h w =
+      let n = get_or (table_at p j) k 0 in
+      let known = All-get_or (λ table. All (IsMessage m) table) s.tables j [] (omega (arith, h, right.shape.tables)) right.shape.numbers in
+      let is = All-get_or (IsMessage m) (table_at p j) k 0 w known in
+      let there : is.0 < length m.messages = omega (arith, is.1, length-map m.messages (λ (x : PlainMessage). x.number)) in
+      let e : (message_at m is.0).number ≡ n = sym (get_or-map (λ (x : PlainMessage). x.number) m.messages is.0 no_message n there) ∙ is.2 in
+      let first = place_is 0 m.messages n is.0 there e in
+      let at : place_from 0 m.messages n ≡ first.0 = omega (arith, first.1) in
+      (omega (arith, at, first.2), ap (λ (z : ℕ). (message_at m z).number) at ∙ first.3)
+
   -- ---- consumers
 
   to_task : (j b : ℕ) → j < length m.messages → Contains (message_at m j).to b → b < length m.tasks
@@ -319,6 +331,7 @@ looks_up set schedules v i keeps are l =
       no_message = λ x differ. ap (λ (m : ModeTable). own_message m.messages x) at ∙ message_none set i keeps l few s right v x differ;
       slot = λ j k h w. ap (λ (r : OwnRound). own_slot r (suc k)) (round j h) ∙ one_slot p v j (suc k) 1 k (table_at p j) (omega arith) w;
       no_slot = λ j x h differ. ap (λ (r : OwnRound). own_slot r x) (round j h) ∙ no_slot p v j x 1 (table_at p j) (λ k w e. differ k w (omega (arith, e)));
+      in_slot = λ j k h w. number_in set i keeps l few s right v j k h w;
       consumer = λ j b h to e. consumer_found set i keeps l few s right v j b h to e;
       no_consumer = λ j x h differ. consumer_none set i keeps l few s right v j x h differ;
     }

@@ -59,6 +59,8 @@ pub record PartLooksUp (plans : List Plan) (v m : ℕ) (p : Plan) (t : NodeTable
   -- each slot of a round with an own message, and no other
   pub slot : (j k : ℕ) → j < length p.schedule.starts → k < length (table_at p j) → own_slot (round_at (mode_at t m) j) (suc k) ≡ cond (is_own p v (message_in_slot p j k)) (Some (kept_slot p j k)) None
   pub no_slot : (j s : ℕ) → j < length p.schedule.starts → ((k : ℕ) → k < length (table_at p j) → s ≢ suc k) → own_slot (round_at (mode_at t m) j) s ≡ None
+  -- the number in a table is that of the message that stands there
+  pub in_slot : (j k : ℕ) → j < length p.schedule.starts → k < length (table_at p j) → (message_in_slot p j k < length p.mode.messages) × ((message_at p.mode (message_in_slot p j k)).number ≡ slice_index_or (table_at p j) k 0)
   -- each consumer of a message on v at its place among them, and no other
   pub consumer : (i b : ℕ) → i < length p.mode.messages → Contains (message_at p.mode i).to b → node_of p b ≡ v → (c : ℕ) × (c < length (consumers_on p v i)) × (slice_index_or (consumers_on p v i) c 0 ≡ b) × (consumer_place (task_at p.mode b).number (kept_message p v i) ≡ Some c)
   pub no_consumer : (i x : ℕ) → i < length p.mode.messages → ((b : ℕ) → Contains (message_at p.mode i).to b → node_of p b ≡ v → (task_at p.mode b).number ≢ x) → consumer_place x (kept_message p v i) ≡ None
