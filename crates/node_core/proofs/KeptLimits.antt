@@ -4,14 +4,13 @@ use Rattle.std.specs.Prelude.{int_lt}
 use Rattle.std.proofs.lemmas.Bool.{eqb-true}
 use Rattle.std.proofs.lemmas.Int.{ints}
 use Rattle.beacon_codec.specs.declared.packet.Beacon.{Beacon}
-use Rattle.task_body.specs.Tally.{answer}
 use Rattle.node_tables.specs.declared.tables.NodeTable.{NodeTable}
 use Rattle.node_tables.specs.declared.tables.OwnMessage.{OwnMessage}
 use Rattle.node_core.specs.declared.packet.Packet.{Packet}
 use Rattle.node_core.specs.Lookup.{mode_at, mode_of_round, is_taken}
 use Rattle.node_core.specs.Registers.{RegistersSeen, no_registers, filled, begun, ended_with}
 use Rattle.node_core.specs.Running.{RunningNode, mode_of}
-use Rattle.node_core.specs.Rules.{at_round, round_in, first_heard, heard, coasted, passed, turned, message_of_slot, registers_with, starts, inputs_now, end_answer}
+use Rattle.node_core.specs.Rules.{at_round, round_in, first_heard, heard, coasted, passed, turned, message_of_slot, registers_with, starts, end_answer}
 use Rattle.node_core.specs.Conditions.{MayHear, MayMiss, MayPass, MayReceive}
 use Rattle.node_core.specs.Fits.{TableFits, SpotFits, InsFit, HasRoom, NodeFits}
 use Rattle.node_core.specs.Laws.{KeptByRules}
@@ -125,6 +124,6 @@ kept_by_rules = record {
   coasting = coasted_fits;
   passing = passed_fits;
   receiving = λ n slot packet fits may. received_by n slot packet (message_of_slot n slot) refl fits may;
-  starting = λ n task numbers fits may. started_or_not n task (answer numbers task (inputs_now n task)) (starts n task) fits;
+  starting = λ n task value fits may. started_or_not n task value (starts n task) fits;
   ending = λ n task fits. with_registers n (ended_with task (end_answer n task) n.registers) fits (ended_ins (mode_of n).messages task (end_answer n task) n.registers fits.ins) (ended_room task (end_answer n task) n.registers fits.room);
 }

@@ -7,14 +7,13 @@ use Rattle.std.proofs.lemmas.List.{get_or-set_same, get_or-set_other, get_or-rep
 use Rattle.std.proofs.lemmas.List.Elements.{All-from_recursion, recursion_from_All}
 use Rattle.std.proofs.lemmas.List.Quantifiers.{position-Some}
 use Rattle.std.proofs.lemmas.Option.{same_Some}
-use Rattle.task_body.specs.Tally.{answer}
 use Rattle.node_tables.specs.declared.tables.OwnMessage.{OwnMessage}
 use Rattle.node_core.specs.declared.packet.Packet.{Packet}
 use Rattle.node_core.specs.Lookup.{consumer_place, own_message, own_slot}
 use Rattle.node_core.specs.Registers.{InRow, RegistersSeen, row_of, register_in, register_of, emptied_at, emptied_for, filled, begun, out_of, ended_with}
 use Rattle.node_core.specs.Running.{RunningNode, mode_of, round_of}
 use Rattle.node_core.specs.Fits.{IsBefore, MessageFits, NodeFits}
-use Rattle.node_core.specs.Rules.{message_of_slot, is_received, takes, registers_with, received, starts, inputs_now, started, end_answer}
+use Rattle.node_core.specs.Rules.{message_of_slot, is_received, takes, registers_with, received, starts, started, end_answer}
 use Rattle.node_core.specs.Laws.{consumes, RegistersByRules}
 use Rattle.node_core.proofs.NodeLemmas.{mode_fits}
 use Rattle.node_core.proofs.SearchLemmas.{later, rest_ascends, each_is_found}
@@ -187,14 +186,14 @@ numbers_fit : (messages : List OwnMessage) (rows : ℕ) → rows ≡ 512 → All
 numbers_fit [] rows e fits = tt
 numbers_fit (m ∷ messages) rows e fits = let number = fits.0.number in (omega (arith, number, e), numbers_fit messages rows e fits.1)
 
-starting : (n : RunningNode) (task : ℕ) (numbers : List ℤ) → NodeFits n → starts n task ≡ true
-    → (b : ℕ) → All (λ x. register_of (started n task numbers).registers.ins b x ≡ cond (nat_eq b task) None (register_of n.registers.ins b x)) (mode_of n).messages
-starting n task numbers fits performed b =
+starting : (n : RunningNode) (task : ℕ) (value : ℤ) → NodeFits n → starts n task ≡ true
+    → (b : ℕ) → All (λ x. register_of (started n task value).registers.ins b x ≡ cond (nat_eq b task) None (register_of n.registers.ins b x)) (mode_of n).messages
+starting n task value fits performed b =
     let messages = (mode_of n).messages in
     let modes = mode_fits n.table fits.table n.mode fits.spot.mode_known in
     let rows = numbers_fit messages (length n.registers.ins) fits.room.rows (recursion_from_All MessageFits messages modes.messages) in
     let each = taken_registers task b n.registers.ins messages modes.ascending rows in
-    subst (λ (t : Bool). All (λ x. register_of (cond t (record n { registers = begun task (answer numbers task (inputs_now n task)) messages n.registers }) n).registers.ins b x ≡ cond (nat_eq b task) None (register_of n.registers.ins b x)) messages)
+    subst (λ (t : Bool). All (λ x. register_of (cond t (record n { registers = begun task value messages n.registers }) n).registers.ins b x ≡ cond (nat_eq b task) None (register_of n.registers.ins b x)) messages)
     (sym performed)
     (All-from_recursion (λ x. register_of (fold (emptied_for task) n.registers.ins messages) b x ≡ cond (nat_eq b task) None (register_of n.registers.ins b x)) messages each)
 

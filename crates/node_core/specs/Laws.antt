@@ -26,7 +26,7 @@ pub record KeptByRules : Type 0 where
   pub coasting : (n : RunningNode) → NodeFits n → MayMiss n → NodeFits (coasted n)
   pub passing : (n : RunningNode) (ticks : ℤ) → NodeFits n → MayPass n ticks → NodeFits (passed n ticks)
   pub receiving : (n : RunningNode) (slot : ℕ) (packet : Packet) → NodeFits n → MayReceive n slot packet → NodeFits (received n slot packet)
-  pub starting : (n : RunningNode) (task : ℕ) (numbers : List ℤ) → NodeFits n → MayStart n task → NodeFits (started n task numbers)
+  pub starting : (n : RunningNode) (task : ℕ) (value : ℤ) → NodeFits n → MayStart n task → NodeFits (started n task value)
   pub ending : (n : RunningNode) (task : ℕ) → NodeFits n → NodeFits (ended n task)
 
 -- the task consumes the message
@@ -41,8 +41,8 @@ pub record RegistersByRules : Type 0 where
       → (a : ℕ) → out_of (ended n task).registers a ≡ cond (nat_eq a task) (Some value) (out_of n.registers a)
   pub receiving : (n : RunningNode) (slot : ℕ) (packet : Packet) (m : OwnMessage) → NodeFits n → message_of_slot n slot ≡ Some m → takes n slot ≡ true
       → (b : ℕ) → All (λ x. register_of (received n slot packet).registers.ins b x ≡ cond (nat_eq x.number m.number && consumes b x) (Some packet.values) (register_of n.registers.ins b x)) (mode_of n).messages
-  pub starting : (n : RunningNode) (task : ℕ) (numbers : List ℤ) → NodeFits n → starts n task ≡ true
-      → (b : ℕ) → All (λ x. register_of (started n task numbers).registers.ins b x ≡ cond (nat_eq b task) None (register_of n.registers.ins b x)) (mode_of n).messages
+  pub starting : (n : RunningNode) (task : ℕ) (value : ℤ) → NodeFits n → starts n task ≡ true
+      → (b : ℕ) → All (λ x. register_of (started n task value).registers.ins b x ≡ cond (nat_eq b task) None (register_of n.registers.ins b x)) (mode_of n).messages
 
 -- the part of each node in right plans is within the limits of a table
 abbrev pub PartsFit : Type 0

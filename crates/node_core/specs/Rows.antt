@@ -1,8 +1,9 @@
 -- Worked rows: what nodes of a loop of three tasks do, computed from the rules.
 -- `sense` on node 1 sends `m1` to `ctrl` on node 0, which sends `m2` to `act` on node 2. The tick is that of the hyperperiod, of 100 ticks
-use Rattle.std.specs.Prelude.{◌≡◌, ℕ, true, false, List, [], ◌∷◌, slice_set, Some, None, ℤ, pos, negsuc}
+use Rattle.std.specs.Prelude.{◌≡◌, ℕ, true, false, List, [], ◌∷◌, Some, None, ℤ, pos, negsuc}
 use Rattle.beacon_codec.specs.declared.packet.Beacon.{Beacon}
-use Rattle.task_body.specs.Tally.{first_numbers}
+use Rattle.task_body.specs.Body.{first_numbers}
+use Rattle.task_body.specs.Tally.{answer}
 use Rattle.runtime_model.specs.NodeTables.{part_of}
 use Rattle.runtime_model.specs.Plans.{plans_of}
 use Rattle.node_tables.specs.declared.tables.NodeTable.{NodeTable}
@@ -13,7 +14,7 @@ use Rattle.node_tables.specs.TestPlans.{loop_mode, loop_schedule, idle_schedule,
 use Rattle.node_tables.specs.TestPlans as plans_of_tests
 use Rattle.node_core.specs.Registers.{no_registers}
 use Rattle.node_core.specs.Running.{RunningNode}
-use Rattle.node_core.specs.Rules.{announced, coasted, end_answer, ended, first_heard, heard, next_start, passed, received, sent, start_answer, started, takes}
+use Rattle.node_core.specs.Rules.{announced, coasted, end_answer, ended, first_heard, heard, inputs_now, next_start, passed, received, sent, start_answer, started, takes}
 
 -- ---- the tables: rounds start at 0 and 23; `m2` has its slot in the first one, for a release one period before, and `m1` in the second one
 
@@ -96,11 +97,15 @@ Misses =
     × (next_start (coasted (before_miss (steady_beacon 2))) ≡ pos 23)
     × (announced (before_miss (warning_beacon 2)) ≡ true))
 
+-- a node after the first start of a task with the body tally
+abbrev pub tally_started : RunningNode → ℕ → RunningNode
+tally_started n task = started n task (answer first_numbers task (inputs_now n task))
+
 -- ---- a lost beacon: node 1 misses the beacon of the second round
 
 -- node 1 starts its task, which takes nothing, and its run ends before the second round
 abbrev pub sense_started : RunningNode
-sense_started = started (passed (first_heard sense_table (opening_beacon 1)) (pos 21)) 0 first_numbers
+sense_started = tally_started (passed (first_heard sense_table (opening_beacon 1)) (pos 21)) 0
 
 abbrev pub sense_ended : RunningNode
 sense_ended = ended (passed sense_started (pos 2)) 0
@@ -118,7 +123,7 @@ control_second = heard (passed (first_heard control_table (opening_beacon 1)) (p
 
 -- it takes no packet, and its task finds the in register empty
 abbrev pub control_ended : RunningNode
-control_ended = ended (passed (started (passed control_second (pos 20)) 1 first_numbers) (pos 5)) 1
+control_ended = ended (passed (tally_started (passed control_second (pos 20)) 1) (pos 5)) 1
 
 -- the next hyperperiod does not open, and the slot is placed
 abbrev pub control_third : RunningNode
@@ -128,7 +133,7 @@ abbrev pub ControlSends : Type 0
 ControlSends =
     ((sent (first_heard control_table (opening_beacon 1)) 1 ≡ None)
     × (start_answer (passed control_second (pos 20)) 1 ≡ Some (None ∷ []))
-    × (end_answer (passed (started (passed control_second (pos 20)) 1 first_numbers) (pos 5)) 1 ≡ Some (pos 1))
+    × (end_answer (passed (tally_started (passed control_second (pos 20)) 1) (pos 5)) 1 ≡ Some (pos 1))
     × (sent control_third 1 ≡ Some (record { message = 1; values = pos 1 ∷ [] })))
 
 -- with a packet in the second round it finds the value
@@ -143,7 +148,7 @@ act_third = heard (passed (heard (passed (first_heard act_table (opening_beacon 
 
 -- it takes the packet and starts its task with it
 abbrev pub act_started : RunningNode
-act_started = started (passed (received act_third 1 (record { message = 1; values = pos 1 ∷ [] })) (pos 20)) 2 first_numbers
+act_started = tally_started (passed (received act_third 1 (record { message = 1; values = pos 1 ∷ [] })) (pos 20)) 2
 
 abbrev pub ActRuns : Type 0
 ActRuns =
@@ -193,20 +198,16 @@ four_table = record {
   } ∷ [];
 }
 
--- one tick on, the task runs for one tick, fired with these numbers of its body
-abbrev pub ran : ℕ → List ℤ → RunningNode → RunningNode
-ran task numbers n = ended (passed (started (passed n (pos 1)) task numbers) (pos 1)) task
-
--- a body whose number of one task is this one
-abbrev pub numbered : ℕ → ℤ → List ℤ
-numbered task value = slice_set first_numbers task value
+-- one tick on, the task runs for one tick, and its body answers this value
+abbrev pub ran : ℕ → ℤ → RunningNode → RunningNode
+ran task value n = ended (passed (started (passed n (pos 1)) task value) (pos 1)) task
 
 abbrev pub three_ran : RunningNode
-three_ran = ran 2 (numbered 2 (pos 29)) (ran 1 (numbered 1 (pos 19)) (ran 0 (numbered 0 (pos 9)) (first_heard four_table (opening_beacon 1))))
+three_ran = ran 2 (pos 30) (ran 1 (pos 20) (ran 0 (pos 10) (first_heard four_table (opening_beacon 1))))
 
 -- with three of four values nothing is sent; with all four they stand in the order of the message's producers
 abbrev pub FourProducers : Type 0
 FourProducers =
     ((sent (heard (passed three_ran (pos 14)) (opening_beacon 2)) 32 ≡ None)
-    × (sent (heard (passed (ran 1023 (numbered 1023 (pos 39)) three_ran) (pos 12)) (opening_beacon 2)) 32 ≡ Some (record { message = 511; values = pos 40 ∷ pos 30 ∷ pos 20 ∷ pos 10 ∷ [] }))
-    × (sent (heard (passed (ran 1023 (numbered 1023 (pos 39)) three_ran) (pos 12)) (opening_beacon 2)) 31 ≡ None))
+    × (sent (heard (passed (ran 1023 (pos 40) three_ran) (pos 12)) (opening_beacon 2)) 32 ≡ Some (record { message = 511; values = pos 40 ∷ pos 30 ∷ pos 20 ∷ pos 10 ∷ [] }))
+    × (sent (heard (passed (ran 1023 (pos 40) three_ran) (pos 12)) (opening_beacon 2)) 31 ≡ None))

@@ -2,7 +2,6 @@
 use Rattle.std.specs.Prelude.{ℕ, suc, ◌-◌, Bool, true, false, cond, not, ◌&&◌, nat_eq, nat_lt, int_le, int_lt, List, length, Option, Some, None, ℤ, pos, ◌+ℤ◌, ◌-ℤ◌}
 use Rattle.std.specs.Ordering.{int_eq}
 use Rattle.beacon_codec.specs.declared.packet.Beacon.{Beacon}
-use Rattle.task_body.specs.Tally.{answer, numbers_after_fire}
 use Rattle.runtime_model.specs.Timeline.{PlainPhase, steady, drain}
 use Rattle.runtime_model.specs.Placement.{placed, not_negative}
 use Rattle.node_tables.specs.declared.tables.NodeTable.{NodeTable}
@@ -155,13 +154,9 @@ inputs_now n task = inputs_of n.registers.ins task (mode_of n).messages
 abbrev pub start_answer : RunningNode → ℕ → Option (List (Option ℤ))
 start_answer n task = cond (starts n task) (Some (inputs_now n task)) None
 
--- the node after a start of the task whose body has these numbers
-abbrev pub started : RunningNode → ℕ → List ℤ → RunningNode
-started n task numbers = cond (starts n task) (record n { registers = begun task (answer numbers task (inputs_now n task)) (mode_of n).messages n.registers }) n
-
--- the numbers of the body after a start of the task
-abbrev pub body_after : RunningNode → ℕ → List ℤ → List ℤ
-body_after n task numbers = cond (starts n task) (numbers_after_fire numbers task (inputs_now n task)) numbers
+-- the node after a start of the task whose end will answer this value
+abbrev pub started : RunningNode → ℕ → ℤ → RunningNode
+started n task value = cond (starts n task) (record n { registers = begun task value (mode_of n).messages n.registers }) n
 
 -- the value of an end of the task
 abbrev pub end_answer : RunningNode → ℕ → Option ℤ

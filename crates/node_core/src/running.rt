@@ -1,13 +1,14 @@
 //! A node that runs: where it stands, and its registers.
 
-ghost use Rattle.std.specs.Prelude.{◌&&◌, ◌+ℤ◌, ◌-ℤ◌, ◌<◌, ◌<ℤ◌, ◌≡◌, ◌≤ℤ◌, pos};
+ghost use Rattle.std.specs.Prelude.{◌&&◌, ◌+ℤ◌, ◌-ℤ◌, ◌<◌, ◌<ℤ◌, ◌≡◌, ◌≤ℤ◌, cond, pos};
 ghost use Rattle.std.specs.Ordering.{int_eq};
 ghost use Rattle.runtime_model.specs.Placement.{not_negative, placed};
 ghost use Rattle.node_core.specs.Conditions.{MayHear, MayMiss, MayPass, MayReceive, MayStart};
 ghost use Rattle.node_core.specs.Fits.{TableFits};
 ghost use Rattle.node_core.specs.Registers.{no_registers};
-ghost use Rattle.node_core.specs.Rules.{announced, body_after, coasted, end_answer, ended, heard, passed, phase_known, received, sent, start_answer, started, starts, takes, turned};
+ghost use Rattle.node_core.specs.Rules.{announced, coasted, end_answer, ended, heard, inputs_now, passed, phase_known, received, sent, start_answer, started, starts, takes, turned};
 ghost use Rattle.node_core.specs.Running.{mode_of};
+ghost use Rattle.task_body.specs.Body.{answer_of, fired};
 
 use crate::lookup::{message_of_slot, mode_at, own_message, own_slot, own_task, round_at, spot_of};
 use crate::packet::{Inputs, Packet};
@@ -15,7 +16,7 @@ use crate::registers::Registers;
 use beacon_codec::Beacon;
 use node_tables::NodeTable;
 use std::marker::Model;
-use task_body::Tally;
+use task_body::TaskBody;
 use tick_num::Time;
 
 /// What is kept of a node in any state. A Listening node keeps it for its table and the room of its registers.
@@ -180,7 +181,9 @@ impl Running {
 
     /// Whether the start of a task at the node's tick is placed.
     fn starts(&self, task: u32) -> bool
-        ensures { result ≡ starts self.now task }
+        requires { MayStart self.now task }
+        ensures placed { result ≡ starts self.now task }
+        ensures known { task < 1024 }
     {
         match own_task(mode_at(&self.table, self.mode), task) {
             Some(own) => self.is_placed(own.offset <= self.tick),
@@ -189,11 +192,18 @@ impl Running {
     }
 
     /// Starts a task, where its start is placed: the body is fired with the inputs from its in registers.
-    pub(crate) fn start(&mut self, task: u32, body: &mut Tally) -> Option<Inputs>
+    pub(crate) fn start(&mut self, task: u32, body: &mut dyn TaskBody) -> Option<Inputs>
         requires { MayStart self.old task }
-        ensures state { self.new ≡ started self.old task body.old }
+
         ensures answer { result ≡ start_answer self.old task }
-        ensures body { body.new ≡ body_after self.old task body.old }
+        ensures state {
+            self.new ≡ started self.old task
+                (answer_of (seen body.old) task (inputs_now self.old task))
+        }
+        ensures body {
+            seen body.new ≡ cond (starts self.old task)
+                (fired (seen body.old) task (inputs_now self.old task)) (seen body.old)
+        }
     {
         if !self.starts(task) {
             return None;

@@ -1,10 +1,11 @@
 //! The three states of a node.
 
-ghost use Rattle.std.specs.Prelude.{◌≡◌, ◌<◌, IfOk};
+ghost use Rattle.std.specs.Prelude.{◌≡◌, ◌<◌, IfOk, cond};
 ghost use Rattle.node_core.specs.Conditions.{MayHear, MayMiss, MayPass, MayReceive, MayStart, MayUseSlot};
 ghost use Rattle.node_core.specs.Fits.{TableFits};
 ghost use Rattle.node_core.specs.Kinds.{after_miss};
-ghost use Rattle.node_core.specs.Rules.{body_after, end_answer, ended, first_heard, heard, passed, received, sent, start_answer, started, takes};
+ghost use Rattle.node_core.specs.Rules.{end_answer, ended, first_heard, heard, inputs_now, passed, received, sent, start_answer, started, starts, takes};
+ghost use Rattle.task_body.specs.Body.{answer_of, fired};
 
 use crate::packet::{Inputs, Packet};
 use crate::registers::Registers;
@@ -13,7 +14,7 @@ use beacon_codec::Beacon;
 use node_tables::NodeTable;
 use std::alloc::{AllocError, Global};
 use std::marker::Model;
-use task_body::Tally;
+use task_body::TaskBody;
 use tick_num::Time;
 
 /// A node that waits for a beacon: it does nothing, and its registers are empty.
@@ -161,13 +162,21 @@ impl Synced {
         self.kept.receive(slot, packet)
     }
 
-    /// Starts a task of the node's mode that is due at its tick, where the start is placed: fires the body with the inputs from the task's in registers,
-    /// which are then empty, and begins a run, while no other is in progress. Answers the inputs. A start that isn't placed changes nothing.
-    pub fn start(&mut self, task: u32, body: &mut Tally) -> Option<Inputs>
+    /// Starts a task of the node's mode that is due at its tick, where the start is placed: fires
+    /// the body with the inputs from the task's in registers, which are then empty, and begins a
+    /// run, while no other is in progress. Answers the inputs. A start that isn't placed changes nothing.
+    pub fn start(&mut self, task: u32, body: &mut dyn TaskBody) -> Option<Inputs>
         requires { MayStart self.old task }
-        ensures state { self.new ≡ started self.old task body.old }
+
         ensures answer { result ≡ start_answer self.old task }
-        ensures body { body.new ≡ body_after self.old task body.old }
+        ensures state {
+            self.new ≡ started self.old task
+                (answer_of (seen body.old) task (inputs_now self.old task))
+        }
+        ensures body {
+            seen body.new ≡ cond (starts self.old task)
+                (fired (seen body.old) task (inputs_now self.old task)) (seen body.old)
+        }
     {
         self.kept.start(task, body)
     }
@@ -217,13 +226,21 @@ impl Coasting {
         self.kept.pass(ticks);
     }
 
-    /// Starts a task of the node's mode that is due at its tick, where the start is placed: fires the body with the inputs from the task's in registers,
-    /// which are then empty, and begins a run, while no other is in progress. Answers the inputs. A start that isn't placed changes nothing.
-    pub fn start(&mut self, task: u32, body: &mut Tally) -> Option<Inputs>
+    /// Starts a task of the node's mode that is due at its tick, where the start is placed: fires
+    /// the body with the inputs from the task's in registers, which are then empty, and begins a
+    /// run, while no other is in progress. Answers the inputs. A start that isn't placed changes nothing.
+    pub fn start(&mut self, task: u32, body: &mut dyn TaskBody) -> Option<Inputs>
         requires { MayStart self.old task }
-        ensures state { self.new ≡ started self.old task body.old }
+
         ensures answer { result ≡ start_answer self.old task }
-        ensures body { body.new ≡ body_after self.old task body.old }
+        ensures state {
+            self.new ≡ started self.old task
+                (answer_of (seen body.old) task (inputs_now self.old task))
+        }
+        ensures body {
+            seen body.new ≡ cond (starts self.old task)
+                (fired (seen body.old) task (inputs_now self.old task)) (seen body.old)
+        }
     {
         self.kept.start(task, body)
     }

@@ -17,4 +17,5 @@ mod writer;
 pub use fault::ImageFault;
 pub use image::{read_image, write_image};
 pub use parts::tables_of;
+pub use rows::make_tasks;
 pub use tables::{ModeTable, NodeTable, OwnMessage, OwnRound, OwnSlot, OwnTask};

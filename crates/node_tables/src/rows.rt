@@ -50,7 +50,7 @@ fn add_tasks(tasks: &mut Vec<TaskRow>, app: &App) -> Result<(), AllocError>
 }
 
 /// The tasks of the applications, in file order.
-pub(crate) fn make_tasks(alloc: Global, apps: &[App]) -> Result<Vec<TaskRow>, AllocError>
+pub fn make_tasks(alloc: Global, apps: &[App]) -> Result<Vec<TaskRow>, AllocError>
     ensures { IfOk result (λ v. v.items ≡ rows_of apps.now) }
 {
     let mut tasks = Vec::new(alloc);

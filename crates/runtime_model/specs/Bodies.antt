@@ -1,28 +1,16 @@
--- Bodies that are handed in: each keeps a state
+-- Bodies that are handed in: the state of each is a number for each task
 use Rattle.std.specs.Prelude.{ℕ, cond, nat_eq, List, [], ◌∷◌, map, filter, slice_index_or, slice_set, Option, ℤ, pos}
 use Rattle.std.specs.List.{flat_map}
 use Rattle.sched_model.specs.PlainMode.{task_at}
+use Rattle.task_body.specs.Body.{BodySeen, body_at}
 use Rattle.runtime_model.specs.Plans.{Plan}
 use Rattle.runtime_model.specs.Outcomes.{Outcome, Step, started, restarted}
 use Rattle.runtime_model.specs.System.{no_plan}
 
--- a body: its state at the beginning, and for a state, a task's number and the inputs of a fire its answer and the state after it
-pub record Body : Type 0 where
-  pub state : List ℤ
-  pub answer : List ℤ → ℕ → List (Option ℤ) → ℤ
-  pub next : List ℤ → ℕ → List (Option ℤ) → List ℤ
-
 -- the bodies, and the place of the body of the task of each number
 pub record Bodies : Type 0 where
-  pub each : List Body
+  pub each : List BodySeen
   pub place : ℕ → ℕ
-
--- what stands for a body past the last one
-abbrev pub no_body : Body
-no_body = record { state = []; answer = λ s a xs. pos 0; next = λ s a xs. s }
-
-abbrev pub body_at : Bodies → ℕ → Body
-body_at bodies b = slice_index_or bodies.each b no_body
 
 -- the numbers of all tasks on node v, in order
 abbrev pub tasks_on : List Plan → ℕ → List ℕ
@@ -38,15 +26,15 @@ reset_all bodies b (a ∷ rest) s = reset_all bodies b rest (cond (nat_eq (bodie
 abbrev pub state_after : List Plan → Bodies → ℕ → Plan → Outcome → List ℤ → List ℤ
 state_after plans bodies b p (started v a k ins x) s =
     let number = (task_at p.mode a).number in
-    cond (nat_eq (bodies.place number) b) ((body_at bodies b).next s number ins) s
+    cond (nat_eq (bodies.place number) b) ((body_at bodies.each b).after_fire s number ins) s
 state_after plans bodies b p (restarted v) s = reset_all bodies b (tasks_on plans v) s
 state_after plans bodies b p o s = s
 
 -- the state of the body at place b after these steps
 abbrev pub state : List Plan → Bodies → ℕ → List Step → List ℤ
-state plans bodies b [] = (body_at bodies b).state
+state plans bodies b [] = (body_at bodies.each b).numbers
 state plans bodies b (d ∷ ds) = state_after plans bodies b (slice_index_or plans d.spot.hyper.mode no_plan) d.out (state plans bodies b ds)
 
 -- what these bodies answer after these steps, by their states
 abbrev pub by_bodies : List Plan → Bodies → List Step → ℕ → List (Option ℤ) → ℤ
-by_bodies plans bodies ds number ins = let b = bodies.place number in (body_at bodies b).answer (state plans bodies b ds) number ins
+by_bodies plans bodies ds number ins = let b = bodies.place number in (body_at bodies.each b).answer (state plans bodies b ds) number ins

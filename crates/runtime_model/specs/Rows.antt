@@ -1,14 +1,15 @@
 -- Worked rows: what scripts do in three small systems, line by line
 use Rattle.std.specs.Prelude.{◌≡◌, ℕ, true, false, List, [], ◌∷◌, drop, replicate, reverse, Some, None, pos}
 use Rattle.std.specs.List.{flat_map}
-use Rattle.task_body.specs.Tally.{answer, first_numbers, numbers_after_fire}
+use Rattle.task_body.specs.Body.{BodySeen, first_numbers}
+use Rattle.task_body.specs.Tally.{answer, numbers_after_fire}
 use Rattle.sched_model.specs.PlainMode.{PlainMode}
 use Rattle.runtime_model.specs.Timeline.{steady}
 use Rattle.runtime_model.specs.HostCalls.{host_after}
 use Rattle.runtime_model.specs.Plans.{Plan}
 use Rattle.runtime_model.specs.Outcomes.{PlainEvent, advance, request, restart, Outcome, beaconed, sent, silent, started, off, finished, void, requested, restarted}
 use Rattle.runtime_model.specs.System.{System}
-use Rattle.runtime_model.specs.Bodies.{Body, Bodies, by_bodies}
+use Rattle.runtime_model.specs.Bodies.{Bodies, by_bodies}
 use Rattle.runtime_model.specs.History.{history}
 use Rattle.runtime_model.specs.Script.{ScriptLine, go, lose, asks, restarts_node, until_beacon, Told, told}
 use Rattle.runtime_model.specs.HostOfEvents.{schedule_counts, calls_of}
@@ -49,8 +50,8 @@ single_plan slots number node = record {
   schedule = record { starts = pos 0 ∷ []; tasks = pos 0 ∷ []; messages = []; tables = [] ∷ [] };
 }
 
-abbrev pub tally : Body
-tally = record { state = first_numbers; answer = answer; next = numbers_after_fire }
+abbrev pub tally : BodySeen
+tally = record { name = []; numbers = first_numbers; answer = answer; after_fire = numbers_after_fire }
 
 -- all tasks have one body
 abbrev pub tallies : Bodies

@@ -1,1 +1,3 @@
+pub mod Body
+pub mod Hold
 pub mod Tally

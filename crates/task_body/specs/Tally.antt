@@ -1,10 +1,6 @@
 -- The body `tally`: it counts how often each task was fired
-use Rattle.std.specs.Prelude.{ℕ, List, Option, Some, None, fold, replicate, slice_index_or, slice_set, ℤ, pos, ◌+ℤ◌}
+use Rattle.std.specs.Prelude.{ℕ, List, Option, Some, None, fold, slice_index_or, slice_set, ℤ, pos, ◌+ℤ◌}
 use Rattle.std.specs.Int.{saturate_signed, w64}
-
--- the numbers of a new body, one for each task
-abbrev pub first_numbers : List ℤ
-first_numbers = replicate 1024 (pos 0)
 
 -- a sum that stays within 64 bits
 abbrev pub plus : ℤ → ℤ → ℤ
@@ -26,7 +22,3 @@ answer numbers task inputs = fold plus_input (next_number numbers task) inputs
 -- the numbers after a fire, which changes the task's alone
 abbrev pub numbers_after_fire : List ℤ → ℕ → List (Option ℤ) → List ℤ
 numbers_after_fire numbers task inputs = slice_set numbers task (next_number numbers task)
-
--- the numbers after a reset of a task
-abbrev pub numbers_after_reset : List ℤ → ℕ → List ℤ
-numbers_after_reset numbers task = slice_set numbers task (pos 0)

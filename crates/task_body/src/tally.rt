@@ -1,29 +1,28 @@
 //! The body `tally`, which counts how often each task was fired.
 
-ghost use Rattle.std.specs.Prelude.{◌≡◌, ◌<◌, IfOk, fold};
-ghost use Rattle.task_body.specs.Tally.{answer, first_numbers, numbers_after_fire, numbers_after_reset, plus_input};
+ghost use Rattle.std.specs.Prelude.{◌≡◌, IfOk, codes, fold};
+ghost use Rattle.task_body.specs.Body.{first_numbers};
+ghost use Rattle.task_body.specs.Tally.{answer, numbers_after_fire, plus_input};
 
+use crate::body::TaskBody;
+use crate::numbers::Numbers;
 use std::alloc::{AllocError, Global};
 use std::marker::Model;
 
-/// How many tasks a body can serve. They are numbered from 0.
-const TASKS: usize = 1024;
-
 /// A number for each task: how often it was fired since its last reset, at most `i64::MAX`.
-/// Contracts see the list of the numbers.
+/// A fire answers the task's new number plus each input that is there, in order. Every sum stays
+/// within an `i64`: at its ends it stands still. Contracts see the list of the numbers.
 #[derive(Drop)]
 pub struct Tally {
-    numbers: Vec<i64>,
+    counts: Numbers,
 }
 
 impl Model for Tally {
-    ghost use Rattle.std.specs.Prelude.{◌≡◌, List, ℤ, length};
+    ghost use Rattle.std.specs.Prelude.{List, ℤ};
 
     ghost Value = { List ℤ };
 
-    ghost view = { λ t. t.numbers.items };
-
-    ghost invariant = { λ t. length t.numbers.items ≡ 1024 };
+    ghost view = { λ t. t.counts };
 }
 
 impl Tally {
@@ -32,28 +31,33 @@ impl Tally {
         ensures { IfOk result (λ t. t ≡ first_numbers) }
     {
         Ok(Tally {
-            numbers: vec![in alloc; 0; TASKS]?,
+            counts: Numbers::make(alloc)?,
         })
     }
+}
 
-    /// Counts a fire of `task`, and answers its new number plus each input that is there, in order.
-    /// Every sum stays within an `i64`: at its ends it stands still.
-    pub fn fire(&mut self, task: u32, inputs: &[Option<i64>]) -> i64
-        requires { task < 1024 }
-        ensures answer { result ≡ answer self.old task inputs.now }
-        ensures numbers { self.new ≡ numbers_after_fire self.old task inputs.now }
-    {
-        let number = self.numbers[task as usize].saturating_add(1);
-        self.numbers[task as usize] = number;
-        total(number, inputs)
+impl TaskBody for Tally {
+    ghost seen = {
+        λ numbers. record {
+            name = codes "tally";
+            numbers = numbers;
+            answer = answer;
+            after_fire = numbers_after_fire;
+        }
+    };
+
+    fn name_is(&self, text: &str) -> bool {
+        text == "tally"
     }
 
-    /// Makes the number of `task` 0, and keeps the others.
-    pub fn reset(&mut self, task: u32)
-        requires { task < 1024 }
-        ensures { self.new ≡ numbers_after_reset self.old task }
-    {
-        self.numbers[task as usize] = 0;
+    fn fire(&mut self, task: u32, inputs: &[Option<i64>]) -> i64 {
+        let count = self.counts.get(task).saturating_add(1);
+        self.counts.set(task, count);
+        total(count, inputs)
+    }
+
+    fn reset(&mut self, task: u32) {
+        self.counts.reset(task);
     }
 }
 
@@ -68,32 +72,4 @@ fn total(number: i64, inputs: &[Option<i64>]) -> i64
         }
     }
     sum
-}
-
-#[cfg(test)]
-mod tests {
-    use super::*;
-
-    #[test]
-    fn counts_and_adds(rt: HostRuntime) -> Result<(), AllocError> {
-        let mut body = Tally::make(rt.alloc())?;
-        assert_eq!(rt; body.fire(0, &[]), 1);
-        assert_eq!(rt; body.fire(0, &[Some(5), None, Some(-2)]), 5);
-        assert_eq!(rt; body.fire(1023, &[None]), 1);
-        body.reset(0);
-        assert_eq!(rt; body.fire(0, &[]), 1);
-        assert_eq!(rt; body.fire(1023, &[]), 2);
-        Ok(())
-    }
-
-    #[test]
-    fn saturates(rt: HostRuntime) -> Result<(), AllocError> {
-        let mut body = Tally::make(rt.alloc())?;
-        assert_eq!(rt; body.fire(7, &[Some(i64::MAX), Some(-1)]), i64::MAX - 1);
-        assert_eq!(rt;
-            body.fire(7, &[Some(i64::MIN), Some(i64::MIN), Some(3)]),
-            i64::MIN + 3
-        );
-        Ok(())
-    }
 }

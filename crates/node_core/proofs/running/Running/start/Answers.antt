@@ -10,14 +10,11 @@ use Rattle.node_core.proofs.InputLemmas.{few_inputs, taken_fit, task_known}
 use Rattle.node_core.proofs.running.Running.start.Goals as goal
 
 pub take_inputs-inputs-requires-clause-room : goal.take_inputs-inputs-requires-clause-room
-take_inputs-inputs-requires-clause-room c =
+take_inputs-inputs-requires-clause-room g c =
     few_inputs (the_view c.self.inside) c.args.task c.as_slice-messages.result.now c.self.invariant (c.as_slice-messages.ensures ∙ ap (λ (m : ModeTable). m.messages) c.mode_at.ensures)
 
-pub fire-value-requires : goal.fire-value-requires
-fire-value-requires c = task_known (the_view c.self.inside) c.args.task c.self.invariant (subst (λ (n : RunningNode). MayStart n c.args.task) (sym c.self.view_is) c.requires)
-
 pub invariant_of-self : goal.invariant_of-self
-invariant_of-self c =
+invariant_of-self g c =
     record {
       table = c.self.invariant.table;
       spot = c.self.invariant.spot;
