@@ -6,6 +6,7 @@ use Rattle.std.proofs.lemmas.Bool.Decides.{nat_tests}
 use Rattle.std.proofs.lemmas.List.{get_or-map, length-map}
 use Rattle.std.proofs.lemmas.List.Elements.{All-contains, All-filter, All-from_recursion, All-get_or, Contains-get_or, filter_passes}
 use Rattle.std.proofs.lemmas.List.Sums.{fails_before_first, passes_at_first, position_or_len_is}
+use Rattle.std.proofs.lemmas.Simd.{map-map}
 use Rattle.app_graph.specs.declared.mode_set.ModeSet.{ModeSet}
 use Rattle.app_graph.specs.Validation.{KeepsRules}
 use Rattle.sched_model.specs.declared.schedule.Schedule.{Schedule}
@@ -205,6 +206,9 @@ module _ (set : ModeSet) (i : ℕ) (keeps : KeepsRules set) (l : i < length set.
       (subst (λ (xs : List OwnMessage). AllByRecursion (λ y. y.number ≢ x) xs) (sym (kept typed_message plain_message (is_own p v) (below (length m.messages))))
       (kept_all (λ (y : OwnMessage). y.number ≢ x) (is_own p v) (λ j. typed_message (plain_message j)) (length m.messages) differ))
 
+  messages_kept : messages ≡ map (kept_message p v) (filter (is_own p v) (below (length m.messages)))
+  messages_kept = map-map typed_message plain_message (filter (is_own p v) (below (length m.messages)))
+
   round_is : (first j : ℕ) → j < length s.starts → round_at (typed_mode (part_in first v p)) j ≡ typed_round (plain_round j)
   round_is first j h =
       get_or-map typed_round (own_rounds p v) j (plain_round j) no_round (omega (arith, h, length-map (below (length s.starts)) plain_round, length-below (length s.starts)))
@@ -329,6 +333,7 @@ looks_up set schedules v i keeps are l =
       no_task = λ x differ. ap (λ (m : ModeTable). own_task m.tasks x) at ∙ task_none set i keeps l few s right v x differ;
       message = λ j h e. ap (λ (m : ModeTable). own_message m.messages (message_at p.mode j).number) at ∙ message_found set i keeps l few s right v j h e;
       no_message = λ x differ. ap (λ (m : ModeTable). own_message m.messages x) at ∙ message_none set i keeps l few s right v x differ;
+      messages = ap (λ (m : ModeTable). m.messages) at ∙ messages_kept set i keeps l few s right v;
       slot = λ j k h w. ap (λ (r : OwnRound). own_slot r (suc k)) (round j h) ∙ one_slot p v j (suc k) 1 k (table_at p j) (omega arith) w;
       no_slot = λ j x h differ. ap (λ (r : OwnRound). own_slot r x) (round j h) ∙ no_slot p v j x 1 (table_at p j) (λ k w e. differ k w (omega (arith, e)));
       in_slot = λ j k h w. number_in set i keeps l few s right v j k h w;

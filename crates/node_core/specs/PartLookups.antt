@@ -1,5 +1,6 @@
 -- What a node finds in its part of the plans
-use Rattle.std.specs.Prelude.{◌≡◌, ◌≢◌, ℕ, suc, ◌+◌, ◌<◌, true, cond, nat_eq, List, [], length, filter, slice_index_or, Contains, Some, None, pos}
+use Rattle.std.specs.Prelude.{◌≡◌, ◌≢◌, ℕ, suc, ◌+◌, ◌<◌, true, cond, nat_eq, List, [], length, map, filter, slice_index_or, Contains, Some, None, pos}
+use Rattle.sched_model.specs.Numbers.{below}
 use Rattle.sched_model.specs.PlainMode.{hyper, task_at, message_at}
 use Rattle.sched_model.specs.Rounds.{round_start}
 use Rattle.runtime_model.specs.NodeTables.{is_own, numbers}
@@ -56,6 +57,8 @@ pub record PartLooksUp (plans : List Plan) (v m : ℕ) (p : Plan) (t : NodeTable
   -- each own message by its number, and no other
   pub message : (i : ℕ) → i < length p.mode.messages → is_own p v i ≡ true → own_message (mode_at t m).messages (message_at p.mode i).number ≡ Some (kept_message p v i)
   pub no_message : (x : ℕ) → ((i : ℕ) → i < length p.mode.messages → is_own p v i ≡ true → (message_at p.mode i).number ≢ x) → own_message (mode_at t m).messages x ≡ None
+  -- all own messages, in file order
+  pub messages : (mode_at t m).messages ≡ map (kept_message p v) (filter (is_own p v) (below (length p.mode.messages)))
   -- each slot of a round with an own message, and no other
   pub slot : (j k : ℕ) → j < length p.schedule.starts → k < length (table_at p j) → own_slot (round_at (mode_at t m) j) (suc k) ≡ cond (is_own p v (message_in_slot p j k)) (Some (kept_slot p j k)) None
   pub no_slot : (j s : ℕ) → j < length p.schedule.starts → ((k : ℕ) → k < length (table_at p j) → s ≢ suc k) → own_slot (round_at (mode_at t m) j) s ≡ None
