@@ -69,6 +69,17 @@ impl Host {
         self.mode
     }
 
+    /// The mode that runs after the end of the round that the host is in, or else of the next one. It is another one only where
+    /// that round is the last of a hyperperiod that drains.
+    pub fn mode_after_round(&self) -> u32
+        ensures { result ≡ (with_call self.now end_round_call).host.mode }
+    {
+        match self.phase {
+            Phase::Drain(next) if self.round >= self.rounds[self.mode as usize] => next,
+            _ => self.mode,
+        }
+    }
+
     /// The round of the last beacon while the host is in it, else that of the next one. Rounds of a mode count from 1.
     pub fn round(&self) -> u64
         ensures { result ≡ self.now.host.round }
