@@ -1,0 +1,17 @@
+pub mod Cycle
+pub mod Due
+pub mod NodeStates
+pub mod Nodes
+pub mod Happened
+pub mod KeptWorlds
+pub mod Laws
+pub mod Standing
+pub mod StandsFor
+pub mod Worlds
+pub mod WorldGoesOn
+pub mod WorldKeeps
+pub mod WorldSteps
+pub mod Owners
+pub mod TaskBodies
+pub mod Making
+pub mod NextBeacons
