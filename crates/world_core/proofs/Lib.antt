@@ -49,3 +49,4 @@ pub mod FirstWorlds
 pub mod KeptParts
 pub mod OneSenders
 pub mod NextBeacons
+pub mod BodyCounts

@@ -87,6 +87,7 @@ impl World {
             event result }
 
         ensures same { StaysSame self.old self.new }
+        ensures count { length bodies.new.items ≡ length bodies.old.items }
     {
         match event {
             Event::Advance(lost) => self.kept.advance(lost, bodies),

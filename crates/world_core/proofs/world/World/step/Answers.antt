@@ -1,6 +1,7 @@
 use Rattle.std.proofs.Common.{refl, sym, subst}
 use Rattle.world_core.specs.KeptWorlds.{IsWorld}
 use Rattle.world_core.proofs.AdvancedWorlds.{world_kept}
+use Rattle.world_core.proofs.BodyCounts.{advance_count, restart_count}
 use Rattle.world_core.proofs.GoingOn.{advance_goes_on, few_owners, may_advance, mode_named, node_named, request_goes_on, restart_goes_on}
 use Rattle.world_core.proofs.KeptParts.{advance_keeps, request_keeps, restart_keeps, same_after}
 use Rattle.world_core.proofs.OtherSteps.{request_kept, restart_kept}
@@ -52,3 +53,9 @@ returns-in-Restart-clause-goes_on g c =
 pub returns-in-Restart-clause-same : goal.returns-in-Restart-clause-same
 returns-in-Restart-clause-same g c =
     same_after c.self.inside.kept c.args.self.now _ _ c.self.view_is c.restart.ensures.state (restart_keeps c.self.inside.kept c.in-Restart.node)
+
+pub returns-in-Advance-clause-count : goal.returns-in-Advance-clause-count
+returns-in-Advance-clause-count g c = advance_count _ _ _ c.self.inside.kept c.advance.ensures.bodies
+
+pub returns-in-Restart-clause-count : goal.returns-in-Restart-clause-count
+returns-in-Restart-clause-count g c = restart_count _ _ _ c.self.inside.kept c.in-Restart.node c.restart.ensures.bodies
