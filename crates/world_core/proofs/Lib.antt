@@ -50,3 +50,4 @@ pub mod KeptParts
 pub mod OneSenders
 pub mod NextBeacons
 pub mod BodyCounts
+pub mod TestWorldLemmas

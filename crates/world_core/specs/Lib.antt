@@ -15,3 +15,4 @@ pub mod Owners
 pub mod TaskBodies
 pub mod Making
 pub mod NextBeacons
+pub mod TestWorlds

@@ -15,6 +15,8 @@ mod medium;
 mod node;
 mod owners;
 mod state;
+#[cfg(test)]
+mod tests;
 mod world;
 
 pub use bodies::missing_body;
