@@ -196,14 +196,10 @@ impl Running {
         requires { MayStart self.old task }
 
         ensures answer { result ≡ start_answer self.old task }
-        ensures state {
-            self.new ≡ started self.old task
-                (answer_of (seen body.old) task (inputs_now self.old task))
-        }
-        ensures body {
-            seen body.new ≡ cond (starts self.old task)
-                (fired (seen body.old) task (inputs_now self.old task)) (seen body.old)
-        }
+        ensures state { self.new ≡ started self.old task
+            (answer_of (seen body.old) task (inputs_now self.old task)) }
+        ensures body { seen body.new ≡ cond (starts self.old task)
+            (fired (seen body.old) task (inputs_now self.old task)) (seen body.old) }
     {
         if !self.starts(task) {
             return None;

@@ -169,14 +169,10 @@ impl Synced {
         requires { MayStart self.old task }
 
         ensures answer { result ≡ start_answer self.old task }
-        ensures state {
-            self.new ≡ started self.old task
-                (answer_of (seen body.old) task (inputs_now self.old task))
-        }
-        ensures body {
-            seen body.new ≡ cond (starts self.old task)
-                (fired (seen body.old) task (inputs_now self.old task)) (seen body.old)
-        }
+        ensures state { self.new ≡ started self.old task
+            (answer_of (seen body.old) task (inputs_now self.old task)) }
+        ensures body { seen body.new ≡ cond (starts self.old task)
+            (fired (seen body.old) task (inputs_now self.old task)) (seen body.old) }
     {
         self.kept.start(task, body)
     }
@@ -233,14 +229,10 @@ impl Coasting {
         requires { MayStart self.old task }
 
         ensures answer { result ≡ start_answer self.old task }
-        ensures state {
-            self.new ≡ started self.old task
-                (answer_of (seen body.old) task (inputs_now self.old task))
-        }
-        ensures body {
-            seen body.new ≡ cond (starts self.old task)
-                (fired (seen body.old) task (inputs_now self.old task)) (seen body.old)
-        }
+        ensures state { self.new ≡ started self.old task
+            (answer_of (seen body.old) task (inputs_now self.old task)) }
+        ensures body { seen body.new ≡ cond (starts self.old task)
+            (fired (seen body.old) task (inputs_now self.old task)) (seen body.old) }
     {
         self.kept.start(task, body)
     }

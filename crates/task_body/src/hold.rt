@@ -36,14 +36,12 @@ impl Hold {
 }
 
 impl TaskBody for Hold {
-    ghost seen = {
-        λ numbers. record {
-            name = codes "hold";
-            numbers = numbers;
-            answer = answer;
-            after_fire = numbers_after_fire;
-        }
-    };
+    ghost seen = { λ numbers. record {
+      name = codes "hold";
+      numbers = numbers;
+      answer = answer;
+      after_fire = numbers_after_fire;
+    } };
 
     fn name_is(&self, text: &str) -> bool {
         text == "hold"

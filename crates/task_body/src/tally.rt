@@ -37,14 +37,12 @@ impl Tally {
 }
 
 impl TaskBody for Tally {
-    ghost seen = {
-        λ numbers. record {
-            name = codes "tally";
-            numbers = numbers;
-            answer = answer;
-            after_fire = numbers_after_fire;
-        }
-    };
+    ghost seen = { λ numbers. record {
+      name = codes "tally";
+      numbers = numbers;
+      answer = answer;
+      after_fire = numbers_after_fire;
+    } };
 
     fn name_is(&self, text: &str) -> bool {
         text == "tally"
