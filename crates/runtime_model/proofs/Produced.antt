@@ -44,10 +44,12 @@ taken_is y p s lost ds u (task_starts a) v i k xs e = absurd (not_started (place
 
 module _ (y : System) (md st v i k : ℕ) (xs : List ℤ) where
   abbrev Produced : List Step → Type 0
-  Produced ds = (newer : List Step) × (older : List Step) × (ds ≡ newer ++ older) × (held (plan_at y md) st i k older ≡ Some xs)
+  Produced ds =
+      (newer : List Step) × (sending : Step) × (older : List Step) × (ds ≡ newer ++ sending ∷ older)
+      × (took v i k sending.out ≡ Some xs) × (held (plan_at y md) st i k older ≡ Some xs)
 
   later : (d : Step) (ds : List Step) → Produced ds → Produced (d ∷ ds)
-  later d ds h = (d ∷ h.0, h.1, ap (λ (zs : List Step). d ∷ zs) h.2, h.3)
+  later d ds h = (d ∷ h.0, h.1, h.2, ap (λ (zs : List Step). d ∷ zs) h.3, h.4, h.5)
 
   produced : (es : List PlainEvent) → (last_spot (history y es)).hyper.mode ≡ md → recall v st (took v i k) (history y es) ≡ Some xs → Produced (history y es)
   produced [] m e = absurd (grind (arith, e))
@@ -69,7 +71,7 @@ module _ (y : System) (md st v i k : ℕ) (xs : List ℤ) where
       ⊎_elim
       (λ (hit : took v i k d.out ≡ Some xs).
       let h = taken_is y (plan_at y s.hyper.mode) s lost ds entry.tick entry.action v i k xs hit in
-      (d ∷ [], ds, refl, ap (λ (z : ℕ). held (plan_at y z) st i k ds) (sym m) ∙ ap (λ (z : ℕ). held (plan_at y s.hyper.mode) z i k ds) (sym stay_is) ∙ h))
+      ([], d, ds, refl, hit, ap (λ (z : ℕ). held (plan_at y z) st i k ds) (sym m) ∙ ap (λ (z : ℕ). held (plan_at y s.hyper.mode) z i k ds) (sym stay_is) ∙ h))
       (λ (miss : (took v i k d.out ≡ None) × (recall v st (took v i k) ds ≡ Some xs)).
       let same = stay_is ∙ sym (recall_stay v st (took v i k) ds xs miss.1) in
       later d ds (produced es (same_mode y ds s (moves y ds (stands y es)) same ∙ m) miss.1))

@@ -218,9 +218,12 @@ StartsArePlaced = (y : System) (es : List PlainEvent) (lost v b k : ℕ) (ins : 
     (step_of y (advance lost) (history y es)).out ≡ started v b k ins x →
     ((entry_at y s).action ≡ task_starts b) × (placed s.hyper.opening s.hyper.phase (own_start p u b) ≡ true) × (k ≡ run_at p s.turn u b) × (node_of p b ≡ v)
 
--- what was taken in window k of message i are the values of run k of each of its producers, as their node held them when it was sent
+-- What was taken in window k of message i are the values of run k of each of its producers: at one step they were sent and taken,
+-- and just before it the producers' node held them
 abbrev pub ValuesAreProduced : Type 0
 ValuesAreProduced = (y : System) (es : List PlainEvent) (v i k : ℕ) (xs : List ℤ) →
     let ds = history y es in
     let s = spot_next y ds in
-    recall v s.stay (took v i k) ds ≡ Some xs → (newer : List Step) × (older : List Step) × (ds ≡ newer ++ older) × (held (plan_at y s.hyper.mode) s.stay i k older ≡ Some xs)
+    recall v s.stay (took v i k) ds ≡ Some xs →
+    (newer : List Step) × (sending : Step) × (older : List Step) × (ds ≡ newer ++ sending ∷ older)
+    × (took v i k sending.out ≡ Some xs) × (held (plan_at y s.hyper.mode) s.stay i k older ≡ Some xs)

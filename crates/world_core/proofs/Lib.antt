@@ -1,3 +1,4 @@
+pub mod Asked
 pub mod DueLemmas
 pub mod EntryLists
 pub mod TaskLemmas

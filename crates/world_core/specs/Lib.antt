@@ -11,6 +11,7 @@ pub mod Worlds
 pub mod WorldGoesOn
 pub mod WorldKeeps
 pub mod WorldSteps
+pub mod Asking
 pub mod Owners
 pub mod TaskBodies
 pub mod Making

@@ -3,6 +3,7 @@
 ghost use Rattle.std.specs.Prelude.{◌≡◌, ◌<◌, ◌≤ℤ◌, [], All, IfOk, length, map, pos};
 ghost use Rattle.app_graph.specs.Validation.{KeepsRules};
 ghost use Rattle.runtime_model.specs.Plans.{AreSchedules};
+ghost use Rattle.world_core.specs.Asking.{IsAsked};
 ghost use Rattle.world_core.specs.KeptWorlds.{MayHappen};
 ghost use Rattle.world_core.specs.NextBeacons.{TellsNext};
 ghost use Rattle.world_core.specs.StandsFor.{HaveBodies, StandsFor};
@@ -85,6 +86,7 @@ impl World {
 
         ensures goes_on { GoesOn self.old (map seen bodies.old.items) self.new (map seen bodies.new.items)
             event result }
+        ensures asked { IsAsked self.old result }
 
         ensures same { StaysSame self.old self.new }
         ensures count { length bodies.new.items ≡ length bodies.old.items }

@@ -1,6 +1,7 @@
 use Rattle.std.proofs.Common.{refl, sym, subst}
 use Rattle.world_core.specs.KeptWorlds.{IsWorld}
 use Rattle.world_core.proofs.AdvancedWorlds.{world_kept}
+use Rattle.world_core.proofs.Asked.{step_asked, request_asked, restart_asked}
 use Rattle.world_core.proofs.BodyCounts.{advance_count, restart_count}
 use Rattle.world_core.proofs.GoingOn.{advance_goes_on, few_owners, may_advance, mode_named, node_named, request_goes_on, restart_goes_on}
 use Rattle.world_core.proofs.KeptParts.{advance_keeps, request_keeps, restart_keeps, same_after}
@@ -59,3 +60,12 @@ returns-in-Advance-clause-count g c = advance_count _ _ _ c.self.inside.kept c.a
 
 pub returns-in-Restart-clause-count : goal.returns-in-Restart-clause-count
 returns-in-Restart-clause-count g c = restart_count _ _ _ c.self.inside.kept c.in-Restart.node c.restart.ensures.bodies
+
+pub returns-in-Advance-clause-asked : goal.returns-in-Advance-clause-asked
+returns-in-Advance-clause-asked g c = step_asked c.self.inside.kept c.args.self.now c.in-Advance.lost _ c.self.view_is c.advance.ensures.answer
+
+pub returns-in-Request-clause-asked : goal.returns-in-Request-clause-asked
+returns-in-Request-clause-asked g c = request_asked c.args.self.now _ c.in-Request.mode _ c.request.ensures.answer
+
+pub returns-in-Restart-clause-asked : goal.returns-in-Restart-clause-asked
+returns-in-Restart-clause-asked g c = restart_asked c.args.self.now _ c.in-Restart.node _ c.restart.ensures.answer
