@@ -1,13 +1,12 @@
 -- The generated file breaks no rule
-use Rattle.std.proofs.Common.{◌≡◌, ℕ, zero, suc, ◌+◌, ◌*◌, ◌<◌, List, [], ◌∷◌, Bool, true, None, is_none, refl, ap, arith, ◌∙◌, codes}
-use Rattle.std.specs.List.{range_with_len, list_all}
+use Rattle.std.proofs.Common.{◌≡◌, ℕ, ◌<◌, [], None, refl, ap, ◌∙◌}
 use Rattle.app_graph.specs.Hyperperiod.{hyperperiod}
 use Rattle.app_graph.specs.declared.faults.GraphFault.TheVariants.{OutOfRange, TooMany}
 use Rattle.app_graph.specs.declared.keys.Key.TheVariants.{KApp, KMode}
 use Rattle.app_graph.specs.Rules.{unless, each_after}
 use Rattle.app_graph.specs.ValueRules.{named, has_some, at_most, is_mode, app_values, hyper_of, sizes_at, round_values, node_values, mode_rules, mode_values, set_rules, value_rules}
 use Rattle.ttw_text.specs.Numbers.{spelled}
-use Rattle.drill.specs.Generated.{below, lettered, raw_app, raw_mode, drill_raw}
+use Rattle.drill.specs.Generated.{below, raw_app, raw_mode, drill_raw}
 use Rattle.drill.proofs.Tables.{each_none}
 use Rattle.drill.proofs.AppsKept.{app_kept}
 use Rattle.drill.proofs.KeptRules.{first_of_kept, below_kept}
@@ -20,9 +19,10 @@ nodes_kept : (seed : ℕ) → node_values (drill_raw seed) ≡ None
 unfolding drill_raw below spelled
 nodes_kept seed = refl
 
-names_kept : (seed : ℕ) → list_all (λ m. is_none (named (raw_mode seed m).name (is_mode (below m (raw_mode seed)) (raw_mode seed m).name))) (range_with_len 0 8) ≡ true
+name_kept : (seed m : ℕ) → m < 8
+    → named (raw_mode seed m).name (is_mode (below m (raw_mode seed)) (raw_mode seed m).name) ≡ None
 unfolding raw_mode below spelled
-names_kept seed = refl
+name_kept seed = each_none _ 8 refl
 
 hyper_is : (seed m : ℕ) → hyper_of (raw_mode seed m) ≡ 1000
 unfolding raw_mode below hyperperiod
@@ -50,9 +50,8 @@ few_modes seed = refl
 
 mode_kept : (seed m : ℕ) → m < 8 → mode_values (drill_raw seed) (below m (raw_mode seed)) (raw_mode seed m) ≡ None
 mode_kept seed m l =
-    let name = each_none (λ m. named (raw_mode seed m).name (is_mode (below m (raw_mode seed)) (raw_mode seed m).name)) 8 (names_kept seed) m l in
     let sizes = ap (λ h. sizes_at h (drill_raw seed) (raw_mode seed m)) (hyper_is seed m) ∙ sizes_kept seed m in
-    first_of_kept (mode_rules (drill_raw seed) (below m (raw_mode seed)) (raw_mode seed m)) (name, (some_apps seed m, (apps_kept seed m, (sizes, tt))))
+    first_of_kept (mode_rules (drill_raw seed) (below m (raw_mode seed)) (raw_mode seed m)) (name_kept seed m l, (some_apps seed m, (apps_kept seed m, (sizes, tt))))
 
 modes_kept : (seed : ℕ) → each_after (mode_values (drill_raw seed)) [] (drill_raw seed).modes ≡ None
 unfolding drill_raw

@@ -1,5 +1,5 @@
 -- Rules that are kept, one after the other
-use Rattle.std.proofs.Common.{◌≡◌, ℕ, zero, suc, ◌+◌, ◌<◌, List, [], ◌∷◌, ◌++◌, Bool, true, Some, None, map, refl, sym, ap, subst, arith, ◌∙◌}
+use Rattle.std.proofs.Common.{◌≡◌, ℕ, zero, suc, ◌+◌, ◌<◌, List, [], ◌∷◌, ◌++◌, Some, None, map, refl, sym, ap, arith, ◌∙◌}
 use Rattle.std.specs.List.{range_with_len, AllByRecursion}
 use Rattle.app_graph.specs.Rules.{Rule, first_of, each_after}
 use Rattle.drill.specs.Generated.{below}

@@ -1,5 +1,5 @@
 -- What holds of each number below n because a test of all of them computes
-use Rattle.std.proofs.Common.{◌≡◌, ℕ, zero, suc, ◌+◌, ◌<◌, Bool, true, false, is_none, Option, None, Some, refl, sym, ap, arith, ◌∙◌, nat_eq, get_or}
+use Rattle.std.proofs.Common.{◌≡◌, ℕ, ◌<◌, Bool, true, is_none, Option, None, Some, refl, sym, ap, arith, ◌∙◌, nat_eq, get_or}
 use Rattle.std.specs.List.{range_with_len, list_all}
 use Rattle.std.proofs.lemmas.Bool.{eqb-true}
 use Rattle.std.proofs.lemmas.List.Sums.{AllPass-from_list_all}

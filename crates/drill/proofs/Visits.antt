@@ -1,13 +1,10 @@
 -- The script grows by one visit after the other, and its lines fit the generated set
-use Rattle.std.proofs.Common.{◌≡◌, ℕ, zero, suc, ◌+◌, ◌-◌, ◌<◌, ◌≤◌, List, [], ◌∷◌, ◌++◌, All, map, refl, ap, length, sum_by, arith, ◌∙◌}
-use Rattle.std.specs.List.{flat_map, range_with_len, AllByRecursion}
+use Rattle.std.proofs.Common.{◌≡◌, ℕ, zero, suc, ◌+◌, ◌-◌, ◌<◌, ◌≤◌, List, [], ◌∷◌, ◌++◌, refl, ap, length, arith, ◌∙◌}
+use Rattle.std.specs.List.{flat_map, range_with_len}
 use Rattle.std.proofs.lemmas.List.Elements.{All-from_recursion}
-use Rattle.std.proofs.lemmas.List.FromFn.{map-range_with_len_more}
-use Rattle.std.proofs.lemmas.List.Concat.{flat_map-cons}
 use Rattle.std.proofs.lemmas.Grind.{flat_map-append}
-use Rattle.replay_script.specs.declared.line.Line.{Line}
 use Rattle.replay_script.specs.declared.line.Line.TheVariants.{Go, Request}
-use Rattle.replay_script.specs.Fitting.{FitsScript, FitsLine, advances}
+use Rattle.replay_script.specs.Fitting.{FitsScript, FitsLine}
 use Rattle.drill.specs.Generated.{drill_set, below}
 use Rattle.drill.specs.Script.{visit, visits, drill_script}
 

@@ -25,12 +25,21 @@ lettered letter n = letter ++ spelled n
 abbrev pub wcet_of : ℕ → ℕ → ℤ
 wcet_of seed n = pos (1 + (seed + n) % 9)
 
+-- the number of the first task of application i of mode m
+abbrev pub first_task : ℕ → ℕ → ℕ
+first_task m i = 64 * m + 2 * i
+
 -- ---- as the file says it
 
 -- the task of application i with this letter, on this node, with the number n
 abbrev pub raw_task : ℕ → List ℕ → ℕ → ℕ → ℕ → RawTask
 raw_task seed letter i node n =
-    record { name = lettered letter i; node = lettered (codes "n") node; wcet = wcet_of seed n; body = codes "tally" }
+    record {
+      name = lettered letter i;
+      node = lettered (codes "n") node;
+      wcet = wcet_of seed n;
+      body = codes "tally";
+    }
 
 -- the message of application i, from its task si to its task ci
 abbrev pub raw_message : ℕ → RawMessage
@@ -46,7 +55,9 @@ raw_app seed m i = record {
   name = lettered (codes "a") i;
   period = pos 1000;
   deadline = pos 1000;
-  tasks = raw_task seed (codes "s") i (2 * i) (64 * m + 2 * i) ∷ raw_task seed (codes "c") i (2 * i + 1) (64 * m + 2 * i + 1) ∷ [];
+  tasks =
+      raw_task seed (codes "s") i (2 * i) (first_task m i)
+      ∷ raw_task seed (codes "c") i (2 * i + 1) (first_task m i + 1) ∷ [];
   messages = raw_message i ∷ [];
 }
 
@@ -70,11 +81,18 @@ drill_raw seed = record {
 -- the task of application i with this letter, on this node, with the number n
 abbrev pub drill_task : ℕ → List ℕ → ℕ → ℕ → ℕ → Task
 drill_task seed letter i node n =
-    record { name = lettered letter i; node = node; wcet = wcet_of seed n; body = codes "tally"; number = n }
+    record {
+      name = lettered letter i;
+      node = node;
+      wcet = wcet_of seed n;
+      body = codes "tally";
+      number = n;
+    }
 
 -- the message with the number n of application i, from the task with the number t to the next one
 abbrev pub drill_message : ℕ → ℕ → ℕ → Message
-drill_message i t n = record { name = lettered (codes "x") i; from = t ∷ []; to = (t + 1) ∷ []; number = n }
+drill_message i t n =
+    record { name = lettered (codes "x") i; from = t ∷ []; to = (t + 1) ∷ []; number = n }
 
 -- application i of mode m
 abbrev pub drill_app : ℕ → ℕ → ℕ → App
@@ -82,8 +100,10 @@ drill_app seed m i = record {
   name = lettered (codes "a") i;
   period = pos 1000;
   deadline = pos 1000;
-  tasks = drill_task seed (codes "s") i (2 * i) (64 * m + 2 * i) ∷ drill_task seed (codes "c") i (2 * i + 1) (64 * m + 2 * i + 1) ∷ [];
-  messages = drill_message i (64 * m + 2 * i) (32 * m + i) ∷ [];
+  tasks =
+      drill_task seed (codes "s") i (2 * i) (first_task m i)
+      ∷ drill_task seed (codes "c") i (2 * i + 1) (first_task m i + 1) ∷ [];
+  messages = drill_message i (first_task m i) (32 * m + i) ∷ [];
 }
 
 -- mode m

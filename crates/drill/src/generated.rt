@@ -141,8 +141,8 @@ fn modes(alloc: Global, seed: u64) -> Result<ListOf<RawMode>, AllocError>
     Ok(ListOf::from_vec(modes))
 }
 
-/// The file of the mode set that a seed gives: 8 modes of 32 applications, each with a task on one node whose message
-/// goes to a task on the next one. The seed decides the wcets.
+/// The file of the mode set that a seed gives: 8 modes of 32 applications, each with a task on one
+/// node whose message goes to a task on the next node. The seed decides the wcets.
 #[tactic(auto, unfolding(crate::specs::Generated::drill_raw))]
 pub fn generate(alloc: Global, seed: u64) -> Result<RawSet, AllocError>
     requires { seed ≤ 1000000 }

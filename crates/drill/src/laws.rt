@@ -9,8 +9,8 @@ ghost use Rattle.app_graph.specs.declared.mode_set.ModeSet.{ModeSet};
 ghost use Rattle.drill.specs.Generated.{drill_raw, drill_set};
 ghost use Rattle.drill.specs.Validated.{Validated};
 
-/// The generated file breaks no rule, whatever the seed, and says the generated mode set: its validation answers this
-/// set unless memory runs out.
+/// The generated file breaks no rule, whatever the seed, and says the generated mode set. Its
+/// validation answers this set unless memory runs out.
 pub fn drill_law()
     ensures kept { (seed : ℕ) → value_rules (drill_raw seed) ≡ None }
 

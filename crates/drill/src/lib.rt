@@ -1,4 +1,4 @@
-//! The drill: a mode set and a script that a number generates, and the line that sums up a run of them.
+//! The drill: a mode set that a number generates, a script, and the line that sums up a run.
 #![tactic(auto)]
 
 mod generated;

@@ -1,5 +1,5 @@
-use Rattle.std.proofs.Common.{◌≡◌, codes}
-use Rattle.drill.specs.Generated.{below, lettered, raw_app, raw_mode}
+use Rattle.std.proofs.Common.{◌≡◌}
+use Rattle.drill.specs.Generated.{below, raw_app}
 use Rattle.drill.proofs.generated.mode.Given as goal
 
 abbrev pub invariant-loop-i : goal.invariant-loop-i

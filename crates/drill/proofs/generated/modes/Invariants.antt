@@ -1,5 +1,5 @@
-use Rattle.std.proofs.Common.{◌≡◌, codes}
-use Rattle.drill.specs.Generated.{below, lettered, raw_app, raw_mode}
+use Rattle.std.proofs.Common.{◌≡◌}
+use Rattle.drill.specs.Generated.{below, raw_mode}
 use Rattle.drill.proofs.generated.modes.Given as goal
 
 abbrev pub invariant-loop-m : goal.invariant-loop-m

@@ -1,5 +1,5 @@
 use Rattle.std.proofs.Common.{◌≡◌, codes}
-use Rattle.drill.specs.Generated.{below, lettered, raw_app, raw_mode}
+use Rattle.drill.specs.Generated.{below, lettered}
 use Rattle.drill.proofs.generated.nodes.Given as goal
 
 abbrev pub invariant-loop-n : goal.invariant-loop-n
