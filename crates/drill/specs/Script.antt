@@ -4,7 +4,7 @@ use Rattle.std.specs.List.{flat_map, range_with_len}
 use Rattle.replay_script.specs.declared.line.Line.{Line}
 use Rattle.replay_script.specs.declared.line.Line.TheVariants.{Go, Request}
 
--- a request of a mode, and three hyperperiods of the modes, which have 168 entries each
+-- a request of a mode, and Advances for three hyperperiods of 168 entries
 abbrev pub visit : ℕ → List Line
 visit mode = Request mode ∷ Go 504 ∷ []
 
@@ -12,6 +12,6 @@ visit mode = Request mode ∷ Go 504 ∷ []
 unfoldable pub visits : ℕ → List Line
 visits n = flat_map visit (range_with_len 1 n)
 
--- two hyperperiods in mode 0, and then a visit of each other mode
+-- Advances for two hyperperiods in mode 0, and then a visit of each other mode
 abbrev pub drill_script : List Line
 drill_script = Go 336 ∷ visits 7

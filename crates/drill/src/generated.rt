@@ -11,7 +11,7 @@ use ttw_text::Out;
 const NODES: u64 = 64;
 
 /// How many modes there are.
-const MODES: u64 = 8;
+pub(crate) const MODES: u32 = 8;
 
 /// How many applications a mode has.
 const APPS: u64 = 32;
@@ -136,7 +136,7 @@ fn modes(alloc: Global, seed: u64) -> Result<ListOf<RawMode>, AllocError>
 {
     let mut modes = Vec::new(alloc);
     for m in 0..MODES {
-        modes.push(mode(alloc, seed, m)?)?;
+        modes.push(mode(alloc, seed, u64::from(m))?)?;
     }
     Ok(ListOf::from_vec(modes))
 }

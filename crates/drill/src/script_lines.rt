@@ -5,16 +5,14 @@ ghost use Rattle.replay_script.specs.Fitting.{FitsScript};
 ghost use Rattle.drill.specs.Generated.{drill_set};
 ghost use Rattle.drill.specs.Script.{drill_script};
 
+use crate::generated::MODES;
 use replay_script::Line;
 use std::alloc::{AllocError, Global};
 
-/// How many modes there are.
-const MODES: u32 = 8;
-
-/// The Advances of two hyperperiods of a mode.
+/// The Advances of two hyperperiods, of 168 entries each.
 const TWO_HYPERPERIODS: u64 = 336;
 
-/// The Advances of three hyperperiods of a mode.
+/// The Advances of three hyperperiods.
 const THREE_HYPERPERIODS: u64 = 504;
 
 /// Two hyperperiods in mode 0, and then for each other mode its request and three hyperperiods.
