@@ -1,0 +1,4 @@
+pub mod Generated
+pub mod Script
+pub mod SummaryLine
+pub mod Validated
