@@ -1,7 +1,8 @@
 //! The search over an explicit stack.
 
-ghost use Rattle.std.specs.Prelude.{◌≡◌, ◌+◌, ◌*◌, [], length, IfOk};
+ghost use Rattle.std.specs.Prelude.{◌≡◌, ℕ, ◌+◌, ◌*◌, [], length, IfOk};
 ghost use Rattle.sched_model.specs.ConstraintProblem.{vars, base, decisions};
+ghost use Rattle.sched_model.specs.SearchCost.{Visited};
 ghost use Rattle.constraint_set.specs.Loads.{tally_of};
 ghost use Rattle.branch_search.specs.Answers.{HasList, HasTree, IsAnswer};
 
@@ -12,6 +13,7 @@ use app_graph::ListOf;
 use constraint_set::Loads;
 use diff_store::Store;
 use proof_tree::Tree;
+use sched_model::laws::costs_exist;
 use std::alloc::{AllocError, Global};
 use tick_num::Time;
 
@@ -39,7 +41,9 @@ fn prepare<P: Posed>(alloc: Global, problem: &P) -> Result<Bench, AllocError>
     ensures variables { IfOk result (λ b. b.store.variables ≡ vars (P.mode problem.now) (P.rounds problem.now)) }
     ensures room { IfOk result (λ b. b.store.constraints ≡ length (base (P.mode problem.now) (P.rounds problem.now)) + 2 * length (decisions (P.mode problem.now))) }
     ensures tally { IfOk result (λ b. b.loads ≡ tally_of (P.mode problem.now) (P.rounds problem.now) []) }
+    ensures counted { IfOk result (λ _. (v : ℕ) × Visited (P.mode problem.now) (P.rounds problem.now) v) }
 {
+    costs_exist();
     let room = problem.base().len() + 2 * problem.decisions();
     let store = Store::reserve(alloc, problem.vars(), room)?;
     let loads = Loads::reserve(alloc, problem.rounds(), problem.decisions())?;

@@ -13,10 +13,11 @@ returns-in-Refuted g c =
     c.in_ok-visit.ensures.comes c.in-Refuted.is c.loop-visited.invariant.count (omega (arith, c.loop-visited-test.true)) c.refuted.ensures
 
 pub returns : goal.returns
-returns g c = λ v h.
+returns g c =
     let w = c.loop-visited.walk in
-    let less = spent_answer (g.P.Posed.mode c.args.problem.now) (g.P.Posed.rounds c.args.problem.now) w.prefix.items w.highs.items w.nodes.items w.refs.items c.loop-visited.visited c.loop-visited.invariant.standing c.loop-visited.invariant.count v h in
-    omega (arith, less, c.loop-visited-test.false)
+    let counted = c.in_ok-bench.ensures.counted in
+    let more = spent_answer (g.P.Posed.mode c.args.problem.now) (g.P.Posed.rounds c.args.problem.now) w.prefix.items w.highs.items w.nodes.items w.refs.items c.loop-visited.visited c.loop-visited.invariant.standing c.loop-visited.invariant.count counted.0 counted.1 in
+    (counted.0, counted.1, omega (arith, more, c.loop-visited-test.false))
 
 pub values-requires : goal.values-requires
 values-requires g c =
