@@ -1,28 +1,29 @@
 -- What is known after each kind of visit, as the search stores its nodes
-use Rattle.std.proofs.Common.{◌≡◌, ℕ, zero, suc, ◌+◌, ◌-◌, ◌<◌, ◌≤◌, List, [], ◌∷◌, ◌++◌, length, take, drop, map, All, refl, sym, ◌∙◌, ap, subst, arith, ⊎_elim, ℤ, ◌≤ℤ◌, ◌<ℤ◌, length-append}
+use Rattle.std.proofs.Common.{◌≡◌, ℕ, zero, suc, ◌+◌, ◌-◌, ◌<◌, ◌≤◌, Bool, true, false, List, [], ◌∷◌, ◌++◌, length, take, drop, map, All, refl, sym, ◌∙◌, ap, subst, arith, ⊎_elim, ℤ, pos, ◌+ℤ◌, ◌≤ℤ◌, ◌<ℤ◌, length-append}
 use Rattle.std.specs.List.{AllByRecursion}
 use Rattle.std.proofs.lemmas.Bool.{cases_lt}
-use Rattle.std.proofs.lemmas.List.{map_push, length-map, length_push, take_at, take_all, take-append-le}
+use Rattle.std.proofs.lemmas.List.{map_push, length-map, length-take, length_push, take_at, take_all, take-append-le}
 use Rattle.std.proofs.lemmas.List.Elements.{All-push, All-weaker, recursion_from_All}
 use Rattle.sched_model.specs.declared.trees.TreeNode.{TreeNode}
 use Rattle.sched_model.specs.declared.trees.TreeNode.TheVariants.{Branch, Short, Full, Cycle}
 use Rattle.sched_model.specs.Numbers.{span}
 use Rattle.sched_model.specs.PlainMode.{PlainMode}
-use Rattle.sched_model.specs.ConstraintProblem.{Decision, vars, alternatives, decisions, in_force, load_of}
+use Rattle.sched_model.specs.ConstraintProblem.{Decision, alternatives, decisions, in_force, load_of}
 use Rattle.sched_model.specs.OpenPrefix.{Open}
 use Rattle.sched_model.specs.SearchCost.{LeadsAt, Visited}
 use Rattle.sched_model.specs.PrintedSchedule.{FirstList}
 use Rattle.tick_num.specs.declared.differences.Diff.{Diff}
-use Rattle.tick_num.specs.Differences.{LeastValues, listed}
-use Rattle.std.specs.Prelude.{Result, Ok, Err, IfOk, Option, Some, None}
+use Rattle.tick_num.specs.Differences.{MeetsAll}
+use Rattle.std.specs.Prelude.{int_lt, if◌then◌else◌, Result, Ok, Err, IfOk, Option, Some, None}
 use Rattle.branch_search.specs.declared.walk.Next.{Next}
 use Rattle.branch_search.specs.declared.walk.Next.TheVariants as nexts
+use Rattle.branch_search.specs.Forcing.{HasSolution, before_last, Fronts}
 use Rattle.branch_search.specs.Coming.{IsStep, Comes, Benched, TallyFor}
-use Rattle.branch_search.proofs.Forces.{serves_next}
+use Rattle.branch_search.proofs.Forces.{fronts_leaf, fronts_open}
 use Rattle.sched_model.specs.RefutationTree.{Node, branch, cycle, node_of, IsStored, Roomy, OwnTree}
-use Rattle.branch_search.specs.Stacks.{Step, Due, Complete, next_due, Follows}
+use Rattle.branch_search.specs.Stacks.{at_, Step, Due, Complete, next_due, Follows}
 use Rattle.constraint_set.specs.Loads.{Tally, tally_of}
-use Rattle.branch_search.specs.Walking.{Whole, Reached, Standing, Fits, Sees}
+use Rattle.branch_search.specs.Walking.{Whole, Reached, Standing, Sees}
 use Rattle.branch_search.proofs.Numbered.{span_none}
 use Rattle.branch_search.proofs.Walks.{After, entered, comes_next, ended, no_children, is_first, full_found, level_at}
 use Rattle.branch_search.proofs.Tallies.{tally_next}
@@ -54,6 +55,22 @@ reads_same refs more (Cycle from len) s =
 all_same : (refs more : List ℕ) (nodes : List TreeNode) → AllByRecursion (IsStored refs) nodes → map (node_of (refs ++ more)) nodes ≡ map (node_of refs) nodes
 all_same refs more [] s = refl
 all_same refs more (n ∷ ns) s = ap (λ (x : Node). x ∷ map (node_of (refs ++ more)) ns) (reads_same refs more n s.0) ∙ ap (λ (l : List Node). node_of refs n ∷ l) (all_same refs more ns s.1)
+
+abbrev due_length : Step → ℕ
+due_length (Due q h) = length q
+due_length Complete = 0
+
+-- the prefix that is due once a tree is whole is no longer
+at_most_by : (k : ℕ) (p g : List ℤ) (b : Bool) → due_length (next_due k p g) ≤ k → due_length (if b then Due (take k p ++ (at_ p k +ℤ pos 1) ∷ []) (take (suc k) g) else next_due k p g) ≤ suc k
+at_most_by k p g true l = omega (arith, length_push (take k p) (at_ p k +ℤ pos 1), length-take k p)
+at_most_by k p g false l = omega (arith, l)
+
+due_at_most : (k : ℕ) (p g : List ℤ) → due_length (next_due k p g) ≤ k
+due_at_most zero p g = omega arith
+due_at_most (suc k) p g = at_most_by k p g (int_lt (at_ p k) (at_ g k)) (due_at_most k p g)
+
+due_short : (k : ℕ) (p g q h : List ℤ) → next_due k p g ≡ Due q h → length q ≤ k
+due_short k p g q h e = subst (λ (s : Step). due_length s ≤ k) e (due_at_most k p g)
 
 module _ (m : PlainMode) (r : ℕ) where
   abbrev D : ℕ
@@ -141,31 +158,36 @@ module _ (m : PlainMode) (r : ℕ) where
       (first_stands p g nodes refs a b s o l e' le)))
 
   -- the list of constraints at the next prefix
-  pub leaf_benched : {E : Type 0} (p g q h : List ℤ) (list : List Diff) (values : List ℤ) (nodes nodes' : List TreeNode) (refs refs' : List ℕ) (result : Result Next E) → IfOk result (λ next. IsStep q h (next_due (length p) p g) next) → IfOk result (λ next. Comes m r p (length nodes) q h nodes' refs' next) →
-      list ≡ in_force m r p → All (Fits (vars m r)) list → length p ≤ D → IfOk result (λ next. Benched m r q list values next)
-  leaf_benched p g q h list values nodes nodes' refs refs' (Ok nexts.Due) b w e f l = record { front = serves_next m r p q list e l w.1; fits = f }
-  leaf_benched p g q h list values nodes nodes' refs refs' (Ok nexts.Refuted) b w e f l = tt
-  leaf_benched p g q h list values nodes nodes' refs refs' (Ok nexts.Found) b w e f l = absurd b
-  leaf_benched p g q h list values nodes nodes' refs refs' (Err x) b w e f l = tt
+  pub leaf_benched : {E : Type 0} (p g q h : List ℤ) (list : List Diff) (nodes nodes' : List TreeNode) (refs refs' : List ℕ) (result : Result Next E) → IfOk result (λ next. IsStep q h (next_due (length p) p g) next) → IfOk result (λ next. Comes m r p (length nodes) q h nodes' refs' next) →
+      Fronts m r p list → length p ≤ D → IfOk result (λ next. Benched m r q list next)
+  leaf_benched p g q h list nodes nodes' refs refs' (Ok nexts.Due) b w f l = fronts_leaf m r p q list f l w.1 (due_short (length p) p g q h b)
+  leaf_benched p g q h list nodes nodes' refs refs' (Ok nexts.Refuted) b w f l = tt
+  leaf_benched p g q h list nodes nodes' refs refs' (Ok nexts.Found) b w f l = absurd b
+  leaf_benched p g q h list nodes nodes' refs refs' (Err x) b w f l = tt
 
-  pub open_benched : {E : Type 0} (p q h : List ℤ) (list : List Diff) (values : List ℤ) (n : ℕ) (nodes' : List TreeNode) (refs' : List ℕ) (result : Result Next E) → IfOk result (λ next. Comes m r p n q h nodes' refs' next) →
-      list ≡ in_force m r p → All (Fits (vars m r)) list → length p ≤ D → LeastValues (in_force m r p) (listed values) → length values ≡ vars m r → IfOk result (λ next. Benched m r q list values next)
-  open_benched p q h list values n nodes' refs' (Ok nexts.Due) w e f l least size = record { front = serves_next m r p q list e l w.1; fits = f }
-  open_benched p q h list values n nodes' refs' (Ok nexts.Refuted) w e f l least size = tt
-  open_benched p q h list values n nodes' refs' (Ok nexts.Found) w e f l least size = (subst (λ (z : List ℤ). LeastValues (in_force m r z) (listed values)) (sym w.1) least, size)
-  open_benched p q h list values n nodes' refs' (Err x) w e f l least size = tt
+  pub open_benched : {E : Type 0} (p q h : List ℤ) (list : List Diff) (n : ℕ) (nodes' : List TreeNode) (refs' : List ℕ) (result : Result Next E) → IfOk result (λ next. Comes m r p n q h nodes' refs' next) →
+      list ≡ in_force m r p → Open m r p → length p ≤ D → IfOk result (λ next. Benched m r q list next)
+  open_benched p q h list n nodes' refs' (Ok nexts.Due) w e o l = fronts_open m r p q list e l w.1
+  open_benched p q h list n nodes' refs' (Ok nexts.Refuted) w e o l = tt
+  open_benched p q h list n nodes' refs' (Ok nexts.Found) w e o l = (e ∙ ap (in_force m r) (sym w.1), (o.values.0, subst (MeetsAll o.values.0) (sym e) o.values.1))
+  open_benched p q h list n nodes' refs' (Err x) w e o l = tt
 
   -- what was seen, at the prefix itself
-  pub leaf_seen : (p g q : List ℤ) (values : List ℤ) (nodes : List TreeNode) (refs refs' : List ℕ) (seen : Option TreeNode) (leaf : TreeNode) → Sees m r q values refs refs' seen → q ≡ p → seen ≡ Some leaf → Standing m r p g nodes refs →
-      Standing m r p g nodes refs' × Whole m r (D - length p) p (node_of refs' leaf ∷ []) × IsStored refs' leaf
-  leaf_seen p g q values nodes refs refs' seen leaf w e is s =
-      let at : Sees m r p values refs refs' (Some leaf) = subst (λ (x : Option TreeNode). Sees m r p values refs refs' x) is (subst (λ (x : List ℤ). Sees m r x values refs refs' seen) e w) in
-      (subst (Standing m r p g nodes) (sym at.2.1) (standing_more p g nodes refs at.2.0 s), at.0 (D - length p), at.1)
+  pub leaf_seen : (p g q : List ℤ) (list : List Diff) (nodes : List TreeNode) (refs refs' : List ℕ) (seen : Option TreeNode) (leaf : TreeNode) → Sees m r q list refs refs' seen → q ≡ p → seen ≡ Some leaf → Standing m r p g nodes refs →
+      Standing m r p g nodes refs' × Whole m r (D - length p) p (node_of refs' leaf ∷ []) × IsStored refs' leaf × Fronts m r p list
+  leaf_seen p g q list nodes refs refs' seen leaf w e is s =
+      let at : Sees m r p list refs refs' (Some leaf) = subst (λ (x : Option TreeNode). Sees m r p list refs refs' x) is (subst (λ (x : List ℤ). Sees m r x list refs refs' seen) e w) in
+      (subst (Standing m r p g nodes) (sym at.2.1) (standing_more p g nodes refs at.2.0 s), at.0 (D - length p), at.1, at.3)
 
-  pub open_seen : (p q : List ℤ) (values : List ℤ) (refs refs' : List ℕ) (seen : Option TreeNode) → Sees m r q values refs refs' seen → q ≡ p → seen ≡ None → LeastValues (in_force m r p) (listed values) × (length values ≡ vars m r)
-  open_seen p q values refs refs' seen w e is =
-      let at : Sees m r p values refs refs' None = subst (λ (x : Option TreeNode). Sees m r p values refs refs' x) is (subst (λ (x : List ℤ). Sees m r x values refs refs' seen) e w) in
-      (at.1, at.2)
+  pub open_seen : (p q : List ℤ) (list : List Diff) (refs refs' : List ℕ) (seen : Option TreeNode) → Sees m r q list refs refs' seen → q ≡ p → seen ≡ None → Open m r p × (list ≡ in_force m r p)
+  open_seen p q list refs refs' seen w e is =
+      let at : Sees m r p list refs refs' None = subst (λ (x : Option TreeNode). Sees m r p list refs refs' x) is (subst (λ (x : List ℤ). Sees m r x list refs refs' seen) e w) in
+      (at.0, at.1)
+
+  -- the choices before the last one have a solution
+  pub front_solution : (p g : List ℤ) (nodes : List Node) → Reached m r (length p) p g nodes → HasSolution (before_last m r p)
+  front_solution [] g nodes w = ((λ x. pos 0), λ k d l. absurd (omega (arith, l)))
+  front_solution (v ∷ p) g nodes w = let u = level_at m r (length (v ∷ p)) (length (v ∷ p) - 1) (v ∷ p) g nodes w (omega arith) in u.2.is_open.values
 
   -- the choices before the last one leave room in each round
   pub front_roomy : (p g : List ℤ) (nodes : List Node) → Reached m r (length p) p g nodes → Roomy m r r (take (length p - 1) p)

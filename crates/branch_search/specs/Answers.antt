@@ -16,7 +16,7 @@ IsAnswer m r budget (Found choice values visited) =
     FirstList m r choice × LeastValues (in_force m r choice) (listed values) × (length values ≡ vars m r) × LeadsAt m r × Visited m r visited × (visited ≤ budget)
 IsAnswer m r budget (Refuted tree visited) =
     OwnTree m r tree.nodes tree.refs × (visited ≡ length tree.nodes) × Visited m r visited × (visited ≤ budget) × (¬ (LeadsAt m r))
-IsAnswer m r budget Spent = (v : ℕ) → Visited m r v → budget < v
+IsAnswer m r budget Spent = (v : ℕ) × Visited m r v × (budget < v)
 
 -- the answer has this tree and number
 abbrev pub HasTree : List TreeNode → List ℕ → ℕ → Answer → Type 0

@@ -1,4 +1,5 @@
 pub mod Stacks
+pub mod Forcing
 pub mod Walking
 pub mod Coming
 pub mod Answers

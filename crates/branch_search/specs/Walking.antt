@@ -1,16 +1,16 @@
 -- A search under way: what the nodes so far show, and what is known at the prefix that is due
-use Rattle.std.specs.Prelude.{◌≡◌, ℕ, zero, suc, ◌+◌, ◌-◌, ◌*◌, ◌<◌, Option, Some, None, List, [], ◌∷◌, ◌++◌, length, take, map, All, ℤ, ◌≤ℤ◌}
+use Rattle.std.specs.Prelude.{◌≡◌, ℕ, zero, suc, ◌-◌, ◌<◌, Option, Some, None, List, [], ◌∷◌, ◌++◌, length, take, map, All, ℤ, ◌≤ℤ◌}
 use Rattle.tick_num.specs.declared.differences.Diff.{Diff}
-use Rattle.tick_num.specs.Differences.{LeastValues, listed}
 use Rattle.sched_model.specs.declared.trees.TreeNode.{TreeNode}
 use Rattle.sched_model.specs.Numbers.{span}
 use Rattle.sched_model.specs.PlainMode.{PlainMode}
-use Rattle.sched_model.specs.ConstraintProblem.{vars, base, alternatives, decisions, in_force}
+use Rattle.sched_model.specs.ConstraintProblem.{alternatives, decisions, in_force}
 use Rattle.sched_model.specs.OpenPrefix.{Open}
 use Rattle.sched_model.specs.RefutationTree.{Node, branch, EachOf, OwnFrom, node_of, IsStored}
-use Rattle.diff_solver.specs.Bounds.{Small}
+use Rattle.diff_store.specs.Bounds.{Small}
 use Rattle.constraint_set.specs.Loads.{Tally, first, tally_of}
 use Rattle.branch_search.specs.Stacks.{at_}
+use Rattle.branch_search.specs.Forcing.{Fronts}
 
 -- the nodes are an own tree of p, whatever nodes come after; n decisions are left
 abbrev pub Whole : PlainMode → ℕ → ℕ → List ℤ → List Node → Type 0
@@ -41,14 +41,9 @@ pub record Standing (m : PlainMode) (r : ℕ) (prefix highs : List ℤ) (nodes :
   pub reached : Reached m r (length prefix) prefix highs (map (node_of refs) nodes)
   pub stored : All (IsStored refs) nodes
 
--- a constraint on the first n variables, with its bound within what can be solved
+-- a constraint on the first n variables, with its bound within what a store takes
 abbrev pub Fits : ℕ → Diff → Type 0
 Fits n d = (d.x < n) × (d.y < n) × Small d
-
--- the list begins with the constraints in force before the last choice of the prefix
-pub record Fronts (m : PlainMode) (r : ℕ) (prefix : List ℤ) (list : List Diff) : Type 0 where
-  pub front : take (length (base m r) + 2 * (length prefix - 1)) list ≡ in_force m r (take (length prefix - 1) prefix)
-  pub fits : All (Fits (vars m r)) list
 
 -- the loads of the rounds begin with those of the choices before the last one of the prefix
 abbrev pub FrontTally : PlainMode → ℕ → List ℤ → Tally → Type 0
@@ -58,7 +53,7 @@ FrontTally m r prefix loads = first (length prefix - 1) loads ≡ tally_of m r (
 abbrev pub IsLeaf : PlainMode → ℕ → List ℤ → Node → Type 0
 IsLeaf m r prefix node = (n : ℕ) → Whole m r n prefix (node ∷ [])
 
--- what is seen at the prefix: a leaf, whose numbers come after those that there were; or that it is open, with the least values
-abbrev pub Sees : PlainMode → ℕ → List ℤ → List ℤ → List ℕ → List ℕ → Option TreeNode → Type 0
-Sees m r prefix values refs refs' (Some node) = IsLeaf m r prefix (node_of refs' node) × IsStored refs' node × ((more : List ℕ) × (refs' ≡ refs ++ more))
-Sees m r prefix values refs refs' None = Open m r prefix × LeastValues (in_force m r prefix) (listed values) × (length values ≡ vars m r) × (refs' ≡ refs)
+-- what is seen at the prefix: a leaf, whose numbers come after those that there were; or that it is open, with all constraints in force in the list
+abbrev pub Sees : PlainMode → ℕ → List ℤ → List Diff → List ℕ → List ℕ → Option TreeNode → Type 0
+Sees m r prefix list refs refs' (Some node) = IsLeaf m r prefix (node_of refs' node) × IsStored refs' node × ((more : List ℕ) × (refs' ≡ refs ++ more)) × Fronts m r prefix list
+Sees m r prefix list refs refs' None = Open m r prefix × (list ≡ in_force m r prefix) × (refs' ≡ refs)

@@ -1,9 +1,9 @@
 //! The search over an explicit stack.
 
-ghost use Rattle.std.specs.Prelude.{◌≡◌, ◌+◌, ◌*◌, [], length, ◌≤◌, All, IfOk};
+ghost use Rattle.std.specs.Prelude.{◌≡◌, ℕ, ◌+◌, ◌*◌, [], length, IfOk};
 ghost use Rattle.sched_model.specs.ConstraintProblem.{vars, base, decisions};
+ghost use Rattle.sched_model.specs.SearchCost.{Visited};
 ghost use Rattle.constraint_set.specs.Loads.{tally_of};
-ghost use Rattle.branch_search.specs.Walking.{Fits};
 ghost use Rattle.branch_search.specs.Answers.{HasList, HasTree, IsAnswer};
 
 use crate::posed::Posed;
@@ -11,8 +11,9 @@ use crate::seeing::Bench;
 use crate::walk::{Next, Walk, visit};
 use app_graph::ListOf;
 use constraint_set::Loads;
-use diff_solver::Work;
+use diff_store::Store;
 use proof_tree::Tree;
+use sched_model::laws::costs_exist;
 use std::alloc::{AllocError, Global};
 use tick_num::Time;
 
@@ -34,25 +35,19 @@ pub enum Answer {
     Spent,
 }
 
-/// The base list, and room for the longest list of constraints and for all choices.
+/// An empty store with room for the longest list of constraints, and room for all choices.
 fn prepare<P: Posed>(alloc: Global, problem: &P) -> Result<Bench, AllocError>
-    ensures list { IfOk result (λ b. b.constraints.items ≡ base (P.mode problem.now) (P.rounds problem.now)) }
-    ensures fits { IfOk result (λ b. All (Fits (vars (P.mode problem.now) (P.rounds problem.now))) b.constraints.items) }
+    ensures list { IfOk result (λ b. b.store.list ≡ []) }
+    ensures variables { IfOk result (λ b. b.store.variables ≡ vars (P.mode problem.now) (P.rounds problem.now)) }
+    ensures room { IfOk result (λ b. b.store.constraints ≡ length (base (P.mode problem.now) (P.rounds problem.now)) + 2 * length (decisions (P.mode problem.now))) }
     ensures tally { IfOk result (λ b. b.loads ≡ tally_of (P.mode problem.now) (P.rounds problem.now) []) }
-    ensures variables { IfOk result (λ b. b.work.variables ≡ vars (P.mode problem.now) (P.rounds problem.now)) }
-    ensures room { IfOk result (λ b. b.work.constraints ≡ length (base (P.mode problem.now) (P.rounds problem.now)) + 2 * length (decisions (P.mode problem.now))) }
-    ensures limit { IfOk result (λ b. b.work.constraints ≤ 131_072) }
+    ensures counted { IfOk result (λ _. (v : ℕ) × Visited (P.mode problem.now) (P.rounds problem.now) v) }
 {
-    let base = problem.base();
-    let room = base.len() + 2 * problem.decisions();
-    let constraints = Vec::from_slice(alloc, base)?;
-    let work = Work::reserve(alloc, problem.vars(), room)?;
+    costs_exist();
+    let room = problem.base().len() + 2 * problem.decisions();
+    let store = Store::reserve(alloc, problem.vars(), room)?;
     let loads = Loads::reserve(alloc, problem.rounds(), problem.decisions())?;
-    Ok(Bench {
-        constraints,
-        work,
-        loads,
-    })
+    Ok(Bench { store, loads })
 }
 
 impl Walk {
@@ -109,7 +104,7 @@ pub fn search<P: Posed>(alloc: Global, problem: &P, budget: u64) -> Result<Answe
         match visit(problem, &mut walk, &mut bench)? {
             Next::Due => {}
             Next::Found => {
-                let values = Vec::from_slice(alloc, bench.work.values())?;
+                let values = Vec::from_slice(alloc, bench.store.values())?;
                 return Ok(walk.found(values, visited + 1));
             }
             Next::Refuted => return Ok(walk.refuted(visited + 1)),

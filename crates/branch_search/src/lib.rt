@@ -2,6 +2,7 @@
 #![tactic(auto)]
 
 mod canonical;
+mod forcing;
 mod posed;
 mod problems;
 mod seeing;

@@ -5,6 +5,7 @@ ghost use Rattle.sched_model.specs.Numbers.{span};
 ghost use Rattle.sched_model.specs.PlainMode.{PlainMode, instances};
 ghost use Rattle.sched_model.specs.ConstraintProblem.{vars, base, alternatives, decisions, chosen, order};
 ghost use Rattle.sched_model.specs.OpenPrefix.{Chosen};
+ghost use Rattle.sched_model.specs.ValidMode.{IsValid};
 ghost use Rattle.constraint_set.specs.Loads.{Within, round_of};
 ghost use Rattle.branch_search.specs.Walking.{Fits};
 
@@ -16,9 +17,11 @@ pub trait Posed {
 
     ghost rounds: { Self → ℕ };
 
-    /// The number of rounds in a hyperperiod.
+    /// The number of rounds in a hyperperiod, at least 1, of a valid mode.
     fn rounds(&self) -> u32
-        ensures { result ≡ rounds self.now };
+        ensures count { result ≡ rounds self.now }
+        ensures some { 1 ≤ result }
+        ensures valid { IsValid (mode self.now) };
 
     /// How many variables there are.
     fn vars(&self) -> u32

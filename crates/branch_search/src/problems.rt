@@ -10,6 +10,7 @@ impl Posed for Problem {
     ghost rounds = { λ p. p.rounds };
 
     fn rounds(&self) -> u32 {
+        let _valid = self.vars();
         self.rounds()
     }
 

@@ -1,48 +1,26 @@
 //! What a visited prefix shows: that it is open, or a leaf of the tree.
 
-ghost use Rattle.std.specs.Prelude.{◌≡◌, ◌+◌, ◌-◌, ◌*◌, ◌<◌, ◌≤◌, length, take, All, IfOk, MatchOption};
-ghost use Rattle.sched_model.specs.ConstraintProblem.{vars, base, decisions, in_force, load};
+ghost use Rattle.std.specs.Prelude.{◌≡◌, ◌+◌, ◌-◌, ◌*◌, ◌<◌, ◌≤◌, length, take, IfOk, MatchOption};
+ghost use Rattle.sched_model.specs.ConstraintProblem.{vars, base, decisions, load};
 ghost use Rattle.sched_model.specs.OpenPrefix.{Chosen};
 ghost use Rattle.sched_model.specs.PlainMode.{instances};
 ghost use Rattle.sched_model.specs.RefutationTree.{Roomy};
 ghost use Rattle.constraint_set.specs.Loads.{tally_of};
-ghost use Rattle.branch_search.specs.Walking.{Fits, Fronts, FrontTally, Sees};
+ghost use Rattle.branch_search.specs.Forcing.{HasSolution, before_last, Fronts};
+ghost use Rattle.branch_search.specs.Walking.{FrontTally, Sees};
 
+use crate::forcing::{come_back, go_down};
 use crate::posed::Posed;
 use constraint_set::Loads;
-use diff_solver::{Solved, Work, solve};
+use diff_store::{Pushed, Store};
 use proof_tree::TreeNode;
 use std::alloc::AllocError;
-use tick_num::Diff;
 
-/// The constraints in force and the room to solve them, and how often each round is named.
+/// The constraints in force, and how often each round is named.
 #[derive(Drop)]
 pub(crate) struct Bench {
-    pub(crate) constraints: Vec<Diff>,
-    pub(crate) work: Work,
+    pub(crate) store: Store,
     pub(crate) loads: Loads,
-}
-
-/// Puts the constraints of the last choice after those of the choices before it.
-fn put_in_force<P: Posed>(
-    problem: &P,
-    prefix: &[i64],
-    constraints: &mut Vec<Diff>,
-) -> Result<(), AllocError>
-    requires few { length prefix.now ≤ length (decisions (P.mode problem.now)) }
-    requires chosen { Chosen (P.mode problem.now) (P.rounds problem.now) prefix.now }
-    requires fronts { Fronts (P.mode problem.now) (P.rounds problem.now) prefix.now constraints.old.items }
-    ensures list { IfOk result (λ _. constraints.new.items ≡ in_force (P.mode problem.now) (P.rounds problem.now) prefix.now) }
-    ensures fits { IfOk result (λ _. All (Fits (vars (P.mode problem.now) (P.rounds problem.now))) constraints.new.items) }
-{
-    let base = problem.base().len();
-    if prefix.len() == 0 {
-        constraints.truncate(base);
-        return Ok(());
-    }
-    constraints.truncate(base + 2 * (prefix.len() - 1));
-    constraints.extend_from_slice(&problem.diffs_of_last(prefix))?;
-    Ok(())
 }
 
 /// Counts the round that the last choice names with those of the choices before it.
@@ -78,36 +56,36 @@ fn overfull<P: Posed>(problem: &P, prefix: &[i64], loads: &Loads) -> Option<u64>
     None
 }
 
-/// Solves the constraints in force: none where they have a solution, else the leaf of a cycle, whose numbers go to `refs`.
-fn solve_in_force<P: Posed>(
+/// Pushes what comes into force: none where there is a solution, else the leaf of a cycle, whose
+/// numbers go to `refs`.
+fn force<P: Posed>(
     problem: &P,
     prefix: &[i64],
-    bench: &mut Bench,
+    store: &mut Store,
     refs: &mut Vec<u32>,
 ) -> Result<Option<TreeNode>, AllocError>
     requires few { length prefix.now ≤ length (decisions (P.mode problem.now)) }
-    requires list { bench.old.constraints.items ≡ in_force (P.mode problem.now) (P.rounds problem.now) prefix.now }
-    requires fits { All (Fits (vars (P.mode problem.now) (P.rounds problem.now))) bench.old.constraints.items }
-    requires variables { bench.old.work.variables ≡ vars (P.mode problem.now) (P.rounds problem.now) }
-    requires room { bench.old.work.constraints ≡ length (base (P.mode problem.now) (P.rounds problem.now)) + 2 * length (decisions (P.mode problem.now)) }
-    requires limit { bench.old.work.constraints ≤ 131_072 }
+    requires chosen { Chosen (P.mode problem.now) (P.rounds problem.now) prefix.now }
+    requires list { store.old.list ≡ before_last (P.mode problem.now) (P.rounds problem.now) prefix.now }
+    requires solvable { HasSolution store.old.list }
+    requires variables { store.old.variables ≡ vars (P.mode problem.now) (P.rounds problem.now) }
+    requires room { store.old.constraints
+        ≡ length (base (P.mode problem.now) (P.rounds problem.now))
+        + 2 * length (decisions (P.mode problem.now)) }
     requires slots { instances (P.mode problem.now) ≤ P.rounds problem.now * (P.mode problem.now).slots }
     requires roomy { Roomy (P.mode problem.now) (P.rounds problem.now) (P.rounds problem.now) prefix.now }
-    ensures seen { IfOk result (λ seen. Sees (P.mode problem.now) (P.rounds problem.now) prefix.now bench.new.work.values refs.old.items refs.new.items seen) }
-    ensures constraints { bench.new.constraints ≡ bench.old.constraints }
-    ensures loads { bench.new.loads ≡ bench.old.loads }
-    ensures variables { bench.new.work.variables ≡ bench.old.work.variables }
-    ensures room { bench.new.work.constraints ≡ bench.old.work.constraints }
+
+    ensures seen { IfOk result (λ seen. Sees (P.mode problem.now) (P.rounds problem.now) prefix.now
+        store.new.list refs.old.items refs.new.items seen) }
+
+    ensures variables { store.new.variables ≡ store.old.variables }
+    ensures constraints { store.new.constraints ≡ store.old.constraints }
 {
-    match solve(
-        problem.vars(),
-        bench.constraints.as_slice(),
-        &mut bench.work,
-    ) {
-        Solved::Least => Ok(None),
-        Solved::Cycle => {
+    match go_down(problem, prefix, store) {
+        Pushed::Solvable => Ok(None),
+        Pushed::Closed => {
             let from = refs.len();
-            let numbers = bench.work.cycle();
+            let numbers = store.cycle();
             refs.extend_from_slice(numbers)?;
             Ok(Some(TreeNode::Cycle {
                 from,
@@ -117,8 +95,9 @@ fn solve_in_force<P: Posed>(
     }
 }
 
-/// Sees what the prefix shows: none where it is open, with the least values in the work, else a leaf. The first of these holds:
-/// the rounds have too few slots, a round is named too often, or the constraints in force go round in a negative cycle.
+/// Sees what the prefix shows: none where it is open, with all constraints in force in the store,
+/// else a leaf. The first of these holds: the rounds have too few slots, a round is named too often,
+/// or the constraints in force go round in a negative cycle.
 pub(crate) fn look<P: Posed>(
     problem: &P,
     prefix: &[i64],
@@ -127,20 +106,25 @@ pub(crate) fn look<P: Posed>(
 ) -> Result<Option<TreeNode>, AllocError>
     requires few { length prefix.now ≤ length (decisions (P.mode problem.now)) }
     requires chosen { Chosen (P.mode problem.now) (P.rounds problem.now) prefix.now }
-    requires fronts { Fronts (P.mode problem.now) (P.rounds problem.now) prefix.now bench.old.constraints.items }
+    requires fronts { Fronts (P.mode problem.now) (P.rounds problem.now) prefix.now bench.old.store.list }
+    requires solvable { HasSolution (before_last (P.mode problem.now) (P.rounds problem.now) prefix.now) }
     requires tally { FrontTally (P.mode problem.now) (P.rounds problem.now) prefix.now bench.old.loads }
-    requires roomy { Roomy (P.mode problem.now) (P.rounds problem.now) (P.rounds problem.now) (take (length prefix.now - 1) prefix.now) }
-    requires variables { bench.old.work.variables ≡ vars (P.mode problem.now) (P.rounds problem.now) }
-    requires room { bench.old.work.constraints ≡ length (base (P.mode problem.now) (P.rounds problem.now)) + 2 * length (decisions (P.mode problem.now)) }
-    requires limit { bench.old.work.constraints ≤ 131_072 }
-    ensures seen { IfOk result (λ seen. Sees (P.mode problem.now) (P.rounds problem.now) prefix.now bench.new.work.values refs.old.items refs.new.items seen) }
-    ensures list { IfOk result (λ _. bench.new.constraints.items ≡ in_force (P.mode problem.now) (P.rounds problem.now) prefix.now) }
-    ensures fits { IfOk result (λ _. All (Fits (vars (P.mode problem.now) (P.rounds problem.now))) bench.new.constraints.items) }
-    ensures tally { IfOk result (λ _. bench.new.loads ≡ tally_of (P.mode problem.now) (P.rounds problem.now) prefix.now) }
-    ensures variables { bench.new.work.variables ≡ bench.old.work.variables }
-    ensures room { bench.new.work.constraints ≡ bench.old.work.constraints }
+    requires roomy { Roomy (P.mode problem.now) (P.rounds problem.now) (P.rounds problem.now)
+        (take (length prefix.now - 1) prefix.now) }
+    requires variables { bench.old.store.variables ≡ vars (P.mode problem.now) (P.rounds problem.now) }
+    requires room { bench.old.store.constraints
+        ≡ length (base (P.mode problem.now) (P.rounds problem.now))
+        + 2 * length (decisions (P.mode problem.now)) }
+
+    ensures seen { IfOk result (λ seen. Sees (P.mode problem.now) (P.rounds problem.now) prefix.now
+        bench.new.store.list refs.old.items refs.new.items seen) }
+    ensures tally { IfOk result (λ _. bench.new.loads
+        ≡ tally_of (P.mode problem.now) (P.rounds problem.now) prefix.now) }
+
+    ensures variables { bench.new.store.variables ≡ bench.old.store.variables }
+    ensures room { bench.new.store.constraints ≡ bench.old.store.constraints }
 {
-    put_in_force(problem, prefix, &mut bench.constraints)?;
+    come_back(problem, prefix, &mut bench.store);
     put_in_loads(problem, prefix, &mut bench.loads);
     if problem.short_of_slots() {
         return Ok(Some(TreeNode::Short));
@@ -148,5 +132,5 @@ pub(crate) fn look<P: Posed>(
     if let Some(j) = overfull(problem, prefix, &bench.loads) {
         return Ok(Some(TreeNode::Full(j)));
     }
-    solve_in_force(problem, prefix, bench, refs)
+    force(problem, prefix, &mut bench.store, refs)
 }

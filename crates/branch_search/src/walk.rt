@@ -1,10 +1,11 @@
 //! From one visited prefix to the next.
 
 ghost use Rattle.std.specs.Prelude.{◌≡◌, ◌+◌, ◌-◌, ◌*◌, ◌≤◌, ◌++◌, ◌∷◌, [], length, All, IfOk, OnOk};
-ghost use Rattle.sched_model.specs.ConstraintProblem.{vars, base, decisions, in_force};
+ghost use Rattle.sched_model.specs.ConstraintProblem.{vars, base, decisions};
 ghost use Rattle.sched_model.specs.OpenPrefix.{Open};
 ghost use Rattle.branch_search.specs.Stacks.{next_due};
-ghost use Rattle.branch_search.specs.Walking.{Fronts, FrontTally, Standing};
+ghost use Rattle.branch_search.specs.Forcing.{Fronts};
+ghost use Rattle.branch_search.specs.Walking.{FrontTally, Standing};
 ghost use Rattle.branch_search.specs.Coming.{Benched, TallyFor, IsStep, Comes};
 
 use crate::posed::Posed;
@@ -74,16 +75,15 @@ pub(crate) fn visit<P: Posed>(
     bench: &mut Bench,
 ) -> Result<Next, AllocError>
     requires standing { Standing (P.mode problem.now) (P.rounds problem.now) walk.old.prefix.items walk.old.highs.items walk.old.nodes.items walk.old.refs.items }
-    requires fronts { Fronts (P.mode problem.now) (P.rounds problem.now) walk.old.prefix.items bench.old.constraints.items }
+    requires fronts { Fronts (P.mode problem.now) (P.rounds problem.now) walk.old.prefix.items bench.old.store.list }
     requires tally { FrontTally (P.mode problem.now) (P.rounds problem.now) walk.old.prefix.items bench.old.loads }
-    requires variables { bench.old.work.variables ≡ vars (P.mode problem.now) (P.rounds problem.now) }
-    requires room { bench.old.work.constraints ≡ length (base (P.mode problem.now) (P.rounds problem.now)) + 2 * length (decisions (P.mode problem.now)) }
-    requires limit { bench.old.work.constraints ≤ 131_072 }
+    requires variables { bench.old.store.variables ≡ vars (P.mode problem.now) (P.rounds problem.now) }
+    requires room { bench.old.store.constraints ≡ length (base (P.mode problem.now) (P.rounds problem.now)) + 2 * length (decisions (P.mode problem.now)) }
     ensures comes { IfOk result (λ next. Comes (P.mode problem.now) (P.rounds problem.now) walk.old.prefix.items (length walk.old.nodes.items) walk.new.prefix.items walk.new.highs.items walk.new.nodes.items walk.new.refs.items next) }
-    ensures benched { IfOk result (λ next. Benched (P.mode problem.now) (P.rounds problem.now) walk.new.prefix.items bench.new.constraints.items bench.new.work.values next) }
+    ensures benched { IfOk result (λ next. Benched (P.mode problem.now) (P.rounds problem.now) walk.new.prefix.items bench.new.store.list next) }
     ensures tally { IfOk result (λ next. TallyFor (P.mode problem.now) (P.rounds problem.now) walk.new.prefix.items bench.new.loads next) }
-    ensures variables { bench.new.work.variables ≡ bench.old.work.variables }
-    ensures room { bench.new.work.constraints ≡ bench.old.work.constraints }
+    ensures variables { bench.new.store.variables ≡ bench.old.store.variables }
+    ensures room { bench.new.store.constraints ≡ bench.old.store.constraints }
 {
     match look(problem, walk.prefix.as_slice(), bench, &mut walk.refs)? {
         Some(leaf) => end_tree(walk, leaf),

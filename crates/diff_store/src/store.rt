@@ -1,7 +1,7 @@
 //! A list of constraints that grows and shrinks at its end.
 
 ghost use Rattle.std.specs.Prelude.{◌≡◌, ℕ, ◌-◌, ◌<◌, ◌≤◌, ◌↔◌, ℤ, [], ◌∷◌, ◌++◌, length, take, IfOk};
-ghost use Rattle.tick_num.specs.Differences.{LeastValues, MeetsAll, NegativeCycle};
+ghost use Rattle.tick_num.specs.Differences.{LeastValues, MeetsAll, NegativeCycle, listed};
 ghost use Rattle.diff_store.specs.Bounds.{Small};
 
 use crate::chains::{link, no_heads, unlink};
@@ -133,6 +133,22 @@ impl Store {
         let last = self.list.len();
         put_back(&mut self.values, &mut self.replaced, self.starts[last]);
         self.starts.truncate(last + 1);
+    }
+
+    /// How many constraints the list has.
+    pub fn len(&self) -> usize
+        ensures { result ≡ length self.now.list }
+    {
+        self.list.len()
+    }
+
+    /// The values of all variables, in ticks, in the least of the list's solutions from 0 on.
+    pub fn values(&self) -> &[Time]
+        requires { (v : ℕ → ℤ) × MeetsAll v self.now.list }
+        ensures least { LeastValues self.now.list (listed result.now) }
+        ensures size { length result.now ≡ self.now.variables }
+    {
+        &self.values
     }
 
     /// The value of a variable, in ticks, in the least of the list's solutions from 0 on.

@@ -10,9 +10,6 @@ use Rattle.proof_tree.specs.declared.tree.Tree.{Tree}
 use Rattle.std.specs.Prelude.{⊤}
 use Rattle.sched_model.specs.ValidMode.{IsValid}
 use Rattle.proof_tree.specs.OwnDocument.{OwnTreesFrom, OwnAnswer}
-use Rattle.branch_search.specs.declared.canonical.Answer.{Answer}
-use Rattle.branch_search.specs.declared.canonical.Answer.TheVariants.{Spent}
-use Rattle.branch_search.specs.Answers.{IsAnswer}
 use Rattle.planner.specs.declared.rounds.Tried.{Tried}
 use Rattle.planner.specs.declared.rounds.Tried.TheVariants as tries
 use Rattle.planner.specs.Laws.{PlansAreBest}
@@ -25,10 +22,6 @@ pub record Refuting (m : PlainMode) (budget : ℕ) (trees : List Tree) (left k :
   pub within : left ≤ budget
   pub costs : (n v : ℕ) → k + n ≡ most_rounds m → CostFrom m (k + 1) n v → Cost m (budget - left + v)
   pub spends : (n r : ℕ) → k + n ≡ most_rounds m → SpentFrom m (k + 1) n budget (budget - left) r → SpentAt m budget r
-
--- a budget that is exceeded, with the number of prefixes that are visited
-pub spent_of : (m : PlainMode) (r budget : ℕ) (answer : Answer) → (v : ℕ) × Visited m r v → IsAnswer m r budget answer → answer ≡ Spent → (v : ℕ) × Visited m r v × (budget < v)
-spent_of m r budget answer (v, h) is e = (v, h, (subst (IsAnswer m r budget) e is) v h)
 
 module _ (m : PlainMode) (budget : ℕ) where
   tree_more : (r : ℕ) (trees : List Tree) (tree : Tree) → OwnTreesFrom m r trees → OwnTree m (r + length trees) tree.nodes tree.refs × (¬ (LeadsAt m (r + length trees))) → OwnTreesFrom m r (trees ++ tree ∷ [])

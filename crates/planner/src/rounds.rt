@@ -10,7 +10,6 @@ use branch_search::{Answer, search};
 use constraint_set::Problem;
 use proof_tree::Tree;
 use sched_model::Schedule;
-use sched_model::laws::{costs_exist, kept_modes_are_valid};
 use std::alloc::{AllocError, Global};
 
 /// What one number of rounds has.
@@ -38,8 +37,6 @@ pub(crate) fn try_rounds(
     requires room { rounds ≤ most_rounds (plain_at set.now mode) }
     ensures { IfOk result (IsTried (plain_at set.now mode) rounds budget) }
 {
-    kept_modes_are_valid();
-    costs_exist();
     let problem = Problem::make(alloc, set, mode, rounds)?;
     match search(alloc, &problem, budget)? {
         Answer::Found {
