@@ -2,7 +2,6 @@
 use Rattle.std.proofs.Common.{◌≡◌, ℕ, zero, suc, ◌+◌, ◌-◌, ◌*◌, ◌<◌, ◌≤◌, length, get_or, refl, sym, ◌∙◌, ap, subst, arith, ⊎_elim, length-append}
 use Rattle.std.specs.List.{flat_map}
 use Rattle.std.proofs.lemmas.Bool.{cases_lt}
-use Rattle.std.proofs.Math.Nat.{mul-le-mul_right}
 use Rattle.sched_model.specs.Numbers.{below}
 use Rattle.sched_model.specs.PlainMode.{hyper}
 use Rattle.sched_model.proofs.Lists.{flat_below-suc, get_or-flat_below, part_fits}

@@ -1,15 +1,16 @@
 -- Where the next beacon comes, counted in Advances without loss
-use Rattle.std.proofs.Common.{◌≡◌, ℕ, zero, suc, ◌+◌, ◌-◌, ◌*◌, ◌<◌, ◌≤◌, true, List, [], ◌∷◌, ◌++◌, length, get_or, refl, sym, ◌∙◌, ap, subst, arith, ◌⊎◌, inl, inr, ⊎_elim}
+use Rattle.std.proofs.Common.{◌≡◌, ℕ, zero, suc, ◌+◌, ◌-◌, ◌*◌, ◌<◌, ◌≤◌, true, List, ◌∷◌, ◌++◌, length, get_or, refl, sym, ◌∙◌, ap, subst, arith, ◌⊎◌, inl, inr, ⊎_elim}
 use Rattle.std.specs.Prelude.{replicate}
 use Rattle.std.proofs.lemmas.Bool.{cases_lt}
 use Rattle.std.proofs.lemmas.Int.{ints}
+use Rattle.std.proofs.lemmas.List.{append_assoc, replicate-append-replicate}
 use Rattle.sched_model.specs.Numbers.{natural}
 use Rattle.sched_model.specs.Rounds.{round_start}
-use Rattle.runtime_model.specs.Entries.{Entry, Action, beacon, at_tick}
+use Rattle.runtime_model.specs.Entries.{Entry, beacon, at_tick}
 use Rattle.runtime_model.specs.Plans.{RightPlan}
-use Rattle.runtime_model.specs.Outcomes.{PlainEvent, advance, request, restart}
+use Rattle.runtime_model.specs.Outcomes.{PlainEvent, advance}
 use Rattle.runtime_model.specs.System.{System, plan_at}
-use Rattle.runtime_model.specs.History.{history, last_spot, next_place, spot_next, entries, entry_at, now_after}
+use Rattle.runtime_model.specs.History.{history, last_spot, spot_next, entries, entry_at, now_after}
 use Rattle.runtime_model.specs.Script.{opens_round, beacon_next}
 use Rattle.runtime_model.specs.Laws.{RequestsFit}
 use Rattle.runtime_model.proofs.Cycles.{none}
@@ -19,7 +20,7 @@ use Rattle.runtime_model.proofs.OutRegisters.{Is, H}
 use Rattle.runtime_model.proofs.FirstTicks.{Stays, Turns, onward, first_start, moments_rise, now_inside, tick_rises}
 use Rattle.replayer.proofs.Places.{near, near_end, near_start}
 
--- the events with n Advances without loss behind them
+-- the events es, and n Advances without loss behind them
 abbrev pub after : ℕ → List PlainEvent → List PlainEvent
 after n es = replicate n (advance 0) ++ es
 
@@ -27,15 +28,9 @@ pub fits_after : (y : System) (n : ℕ) (es : List PlainEvent) → RequestsFit y
 fits_after y zero es f = f
 fits_after y (suc n) es f = fits_after y n es f
 
--- one of the Advances comes first
-pub after_one : (n : ℕ) (es : List PlainEvent) → after n (advance 0 ∷ es) ≡ after (suc n) es
-after_one zero es = refl
-after_one (suc n) es = ap (λ (fs : List PlainEvent). advance 0 ∷ fs) (after_one n es)
-
--- m Advances, and n more behind them
+-- n Advances behind m others
 pub after_both : (n m : ℕ) (es : List PlainEvent) → after n (after m es) ≡ after (n + m) es
-after_both zero m es = ap (λ (k : ℕ). after k es) (let e : m ≡ 0 + m = omega arith in e)
-after_both (suc n) m es = ap (λ (fs : List PlainEvent). advance 0 ∷ fs) (after_both n m es) ∙ ap (λ (k : ℕ). after k es) (let e : suc (n + m) ≡ suc n + m = omega arith in e)
+after_both n m es = sym (append_assoc (replicate n (advance 0)) (replicate m (advance 0)) es) ∙ ap (λ (fs : List PlainEvent). fs ++ es) (replicate-append-replicate n m (advance 0))
 
 -- ---- the rounds of a right plan
 module _ (y : System) (md : ℕ) (ok : RightPlan y.nodes (plan_at y md)) where
@@ -94,6 +89,7 @@ pub record Soon (y : System) (es : List PlainEvent) (t : ℕ) : Type 0 where
   pub few : (c g : ℕ) → Small y c g → n ≤ (g + 1) * c
 
 module _ (y : System) (right : AllRight y) where
+  -- inside a cycle an Advance goes on by one place, and m go on by m places
   goes : (es : List PlainEvent) (f : RequestsFit y es) (md b i : ℕ) → Next y es md b i → suc i < length (entries y md) → Next y (advance 0 ∷ es) md b (suc i)
   goes es f md b i n l =
       let ds = history y (advance 0 ∷ es) in
@@ -124,7 +120,7 @@ module _ (y : System) (right : AllRight y) where
   reached : (es : List PlainEvent) (f : RequestsFit y es) (md b i u j : ℕ) → Next y es md b i → Is y md i u (beacon j) → (beacon_next y es ≡ true) × (now_after y (history y es) ≤ b + u)
   reached es f md b i u j n is =
       let e : entry_at y (spot_next y (history y es)) ≡ record { tick = u; action = beacon j } =
-          ap (λ (z : ℕ). get_or (entries y z) (spot_next y (history y es)).index none) n.mode ∙ ap (λ (z : ℕ). get_or (entries y md) z none) n.index ∙ is.1 in
+      ap (λ (z : ℕ). get_or (entries y z) (spot_next y (history y es)).index none) n.mode ∙ ap (λ (z : ℕ). get_or (entries y md) z none) n.index ∙ is.1 in
       let t = ap (λ (x : Entry). x.tick) e in
       (ap (λ (x : Entry). opens_round x.action) e, omega (arith, (moments_rise y right es 0 f).0, n.begin, t))
 
@@ -143,7 +139,12 @@ module _ (y : System) (right : AllRight y) where
         λ c g small. near_start y.nodes (plan_at y md) c (small md ok).1 w.0 w.1.0 (ap (λ (x : Entry). x.tick) w.1.1 ∙ zero_tick),
       )
 
-  -- from any place: a later round begins, or the next hyperperiod
+  -- a beacon that comes n Advances behind m more
+  further : (es : List PlainEvent) (n m t : ℕ) → beacon_next y (after n (after m es)) ≡ true → now_after y (history y (after n (after m es))) ≤ t →
+      (beacon_next y (after (n + m) es) ≡ true) × (now_after y (history y (after (n + m) es)) ≤ t)
+  further es n m t comes early = subst (λ (fs : List PlainEvent). (beacon_next y fs ≡ true) × (now_after y (history y fs) ≤ t)) (after_both n m es) (comes, early)
+
+  -- from any place: a beacon comes in a later round, or as the first one of the next hyperperiod
   from_place : (es : List PlainEvent) (f : RequestsFit y es) (md b i : ℕ) → RightPlan y.nodes (plan_at y md) → Next y es md b i → i < length (entries y md) → Soon y es (b + H y md)
   from_place es f md b i ok next l =
       let u = (get_or (entries y md) i none).tick in
@@ -168,11 +169,11 @@ module _ (y : System) (right : AllRight y) where
       let first = opens (after m es) (fits_after y m es f) md b (size - 1) last (omega (arith, l)) in
       let md' = (spot_next y (history y es')).hyper.mode in
       let w = from_start es' fits md' (b + H y md) (right (advance 0 ∷ es') fits) first in
-      let same = after_both w.0 (suc m) es in
+      let v = further es w.0 (suc m) (b + H y md) w.1 w.2 in
       record {
         n = w.0 + suc m;
-        comes = subst (λ (fs : List PlainEvent). beacon_next y fs ≡ true) same w.1;
-        early = subst (λ (fs : List PlainEvent). now_after y (history y fs) ≤ b + H y md) same w.2;
+        comes = v.0;
+        early = v.1;
         few = λ c g small. omega (arith, w.3 c g small, l, near_end y.nodes (plan_at y md) c (small md ok).1 i g l (omega (arith, over, (small md ok).0)));
       })
       (later_round y md ok u)
