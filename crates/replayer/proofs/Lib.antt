@@ -2,3 +2,5 @@ pub mod Places
 pub mod Searches
 pub mod Spelling
 pub mod Fronts
+pub mod Limits
+pub mod Lengths

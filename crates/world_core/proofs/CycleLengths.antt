@@ -51,7 +51,7 @@ round_short p few u j = by_test (nat_eq (natural (round_start p.schedule j)) u)
     by_test true = omega (arith, few_table p.schedule.tables j few.few, length-map {B = Entry} (get_or p.schedule.tables j []) (λ number. record { tick = u; action = slot j (place_from 0 p.mode.messages number) }))
     by_test false = omega arith
 
-tick_short : (nodes : ℕ) (p : Plan) → nodes ≤ 64 → length p.mode.tasks ≤ 128 → FewRounds p.schedule → (u : ℕ) → length (at_tick nodes p u) ≤ 24832
+pub tick_short : (nodes : ℕ) (p : Plan) → nodes ≤ 64 → length p.mode.tasks ≤ 128 → FewRounds p.schedule → (u : ℕ) → length (at_tick nodes p u) ≤ 24832
 tick_short nodes p n t few u =
     let ends = by_node_short nodes p (due_end p u) task_ends u in
     let starts = by_node_short nodes p (due_start p u) task_starts u in
