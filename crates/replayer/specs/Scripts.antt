@@ -1,10 +1,11 @@
 -- Scripts as lists of events, and what every script has
-use Rattle.std.specs.Prelude.{◌≡◌, ℕ, ◌+◌, ◌<◌, ◌≤◌, List, [], ◌∷◌, ◌++◌, replicate, Option, ℤ}
+use Rattle.std.specs.Prelude.{◌≡◌, ℕ, ◌+◌, ◌<◌, ◌≤◌, List, [], ◌∷◌, ◌++◌, length, map, replicate, Option, ℤ}
 use Rattle.app_graph.specs.declared.mode_set.ModeSet.{ModeSet}
 use Rattle.app_graph.specs.Validation.{KeepsRules}
 use Rattle.sched_model.specs.declared.schedule.Schedule.{Schedule}
 use Rattle.replay_script.specs.declared.line.Line.{Line}
 use Rattle.replay_script.specs.declared.line.Line.TheVariants.{Go, UntilBeacon, Lose, Request, Restart}
+use Rattle.replay_script.specs.Fitting.{FitsScript}
 use Rattle.runtime_model.specs.Laws.{PlansAreRight, RequestsFit}
 use Rattle.runtime_model.specs.Outcomes.{PlainEvent, advance, Step}
 use Rattle.runtime_model.specs.Plans.{AreSchedules}
@@ -41,3 +42,10 @@ BeaconsComeSoon = (set : ModeSet) (schedules : List Schedule) (answers : List St
     KeepsRules set → AreSchedules set schedules → RequestsFit y es →
     (n : ℕ) × Until y es n × (n ≤ 100000000000000)
     × (now_after y (history y (replicate n (advance 0) ++ es)) ≤ now_after y (history y es) + 1000000000000)
+
+-- A script that fits the set is short: its requests name modes of the system, and its events and ticks can be counted in 63 bits
+abbrev pub ScriptsAreShort : Type 0
+ScriptsAreShort = (set : ModeSet) (schedules : List Schedule) (answers : List Step → ℕ → List (Option ℤ) → ℤ) (lines : List Line) (es : List PlainEvent) →
+    let y = system_of set schedules answers in
+    KeepsRules set → AreSchedules set schedules → FitsScript set lines → Spells y (map plain_line lines) es →
+    RequestsFit y es × (length es ≤ 1000001000000000000) × (now_after y (history y es) ≤ 1020000000000000000)

@@ -2,5 +2,6 @@
 #![tactic(auto)]
 
 mod counts;
+pub mod laws;
 
 pub use counts::Counts;
