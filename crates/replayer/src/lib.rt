@@ -2,5 +2,7 @@
 #![tactic(auto)]
 
 mod counts;
+mod line;
+mod names;
 
 pub use counts::Counts;

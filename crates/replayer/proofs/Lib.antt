@@ -1,0 +1,4 @@
+pub mod Decimals
+pub mod Joining
+pub mod NodeTexts
+pub mod LineTexts
