@@ -1,5 +1,5 @@
 -- The texts of a line, one behind the other.
-use Rattle.std.proofs.Common.{◌≡◌, ◌≤◌, ℕ, List, [], ◌∷◌, ◌++◌, Option, Result, OnOk, OnErr, sym, ap, ◌∙◌, append_assoc, subst}
+use Rattle.std.proofs.Common.{◌≡◌, ◌≤◌, ℕ, List, [], ◌∷◌, ◌++◌, Option, Result, OnOk, OnErr, sym, ap, ◌∙◌, append_assoc, append-nil, subst}
 use Rattle.std.proofs.lemmas.Result.{on_ok_weaker, on_err_weaker}
 use Rattle.ttw_io.specs.Buffering.{Passes}
 use Rattle.ttw_io.specs.Outside.{AddsFront}
@@ -67,3 +67,10 @@ pub head_err : {T E : Type 0} (r : Result T E) (old new : Option (List ℕ)) (st
     (head ++ mid) ++ last ≡ whole → AddsFront old new (start ++ head) → OnErr r (AddsFront old new (start ++ whole))
 head_err r old new start head mid last whole e a =
     on_err r _ (front_same old new start (head ++ (mid ++ last)) whole (sym (append_assoc head mid last) ∙ e) (front_longer old new start head (mid ++ last) a))
+
+-- all passes, and then a front of what is left
+pub front_rest : (old mid new : Option (List ℕ)) (all between : List ℕ) → Passes old mid all between → AddsFront mid new between → AddsFront old new all
+front_rest old mid new all between passed front =
+    let P : List ℕ → Type 0 = λ ys. AddsFront old new ys in
+    let Q : List ℕ → Type 0 = λ ys. AddsFront mid new ys in
+    subst P (append-nil all) (Passes-AddsFront old mid new all between [] passed (subst Q (sym (append-nil between)) front))

@@ -10,7 +10,7 @@ pub task_line : (tick spelled word node node_name task task_name : List ℕ) →
     tick ++ (word ++ (32 ∷ (node ++ (32 ∷ (task ++ 10 ∷ []))))) ≡ spelled ++ ((word ++ 32 ∷ (node_name ++ 32 ∷ task_name)) ++ 10 ∷ [])
 task_line tick spelled word node node_name task task_name e f h =
     let grouped : (word ++ 32 ∷ (node_name ++ 32 ∷ task_name)) ++ 10 ∷ [] ≡ word ++ (32 ∷ (node_name ++ (32 ∷ (task_name ++ 10 ∷ [])))) =
-        append_assoc word (32 ∷ (node_name ++ 32 ∷ task_name)) (10 ∷ []) ∙ ap (λ (t : List ℕ). word ++ 32 ∷ t) (append_assoc node_name (32 ∷ task_name) (10 ∷ [])) in
+    append_assoc word (32 ∷ (node_name ++ 32 ∷ task_name)) (10 ∷ []) ∙ ap (λ (t : List ℕ). word ++ 32 ∷ t) (append_assoc node_name (32 ∷ task_name) (10 ∷ [])) in
     cc
 
 -- a node, a task, a value
@@ -18,7 +18,7 @@ pub ended_text : (node node_name task task_name value spelled : List ℕ) → no
     node ++ (32 ∷ (task ++ (32 ∷ (value ++ 10 ∷ [])))) ≡ ((node_name ++ 32 ∷ task_name) ++ 32 ∷ spelled) ++ 10 ∷ []
 ended_text node node_name task task_name value spelled e f h =
     let grouped : ((node_name ++ 32 ∷ task_name) ++ 32 ∷ spelled) ++ 10 ∷ [] ≡ node_name ++ (32 ∷ (task_name ++ (32 ∷ (spelled ++ 10 ∷ [])))) =
-        append_assoc (node_name ++ 32 ∷ task_name) (32 ∷ spelled) (10 ∷ []) ∙ append_assoc node_name (32 ∷ task_name) (32 ∷ (spelled ++ 10 ∷ [])) in
+    append_assoc (node_name ++ 32 ∷ task_name) (32 ∷ spelled) (10 ∷ []) ∙ append_assoc node_name (32 ∷ task_name) (32 ∷ (spelled ++ 10 ∷ [])) in
     cc
 
 -- behind a blank

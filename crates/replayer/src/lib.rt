@@ -4,5 +4,8 @@
 mod counts;
 mod line;
 mod names;
+#[cfg(test)]
+mod tests;
+mod tracer;
 
 pub use counts::Counts;

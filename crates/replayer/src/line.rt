@@ -173,7 +173,10 @@ fn put_task<S: Sink>(
     let mut tick = Digits::new();
     let node = names.node(node as usize);
     let task = names.task(task);
-    buffer.put_all(&[signed(&mut tick, at), word, b" ", node, b" ", task, b"\n"], out)
+    buffer.put_all(
+        &[signed(&mut tick, at), word, b" ", node, b" ", task, b"\n"],
+        out,
+    )
 }
 
 /// Puts the line of the end of a run.
@@ -199,7 +202,19 @@ fn put_ended<S: Sink>(
     let node = names.node(node as usize);
     let task = names.task(task);
     let value = signed(&mut digits, value);
-    buffer.put_all(&[signed(&mut tick, at), b" end ", node, b" ", task, b" ", value, b"\n"], out)
+    buffer.put_all(
+        &[
+            signed(&mut tick, at),
+            b" end ",
+            node,
+            b" ",
+            task,
+            b" ",
+            value,
+            b"\n",
+        ],
+        out,
+    )
 }
 
 /// Puts the line of a start.
@@ -248,7 +263,10 @@ fn put_packet<S: Sink>(
     let mut tick = Digits::new();
     let node = names.node(node as usize);
     let message = names.message(packet.message);
-    buffer.put_all(&[signed(&mut tick, at), b" send ", node, b" ", message], out)?;
+    buffer.put_all(
+        &[signed(&mut tick, at), b" send ", node, b" ", message],
+        out,
+    )?;
     put_values(&packet.values, buffer, out)?;
     buffer.put(b" taken", out)
 }
@@ -300,7 +318,10 @@ fn put_beacon<S: Sink>(
     let round = number(&mut round, u64::from(beacon.round));
     let mode = names.mode(usize::from(beacon.mode));
     let flags = number(&mut digits, flags(beacon));
-    buffer.put_all(&[tick, b" beacon ", round, b" ", mode, b" ", flags, b" heard"], out)?;
+    buffer.put_all(
+        &[tick, b" beacon ", round, b" ", mode, b" ", flags, b" heard"],
+        out,
+    )?;
     put_nodes(names, heard, buffer, out)?;
     buffer.put(b"\n", out)
 }
@@ -321,24 +342,59 @@ pub(crate) fn put_line<S: Sink>(
     ensures failed { OnErr result (Rose (S.faults out.old) (S.faults out.new)) }
 {
     match happened {
-        Happened::Beacon { at, beacon, heard } => put_beacon(names, *at, *beacon, *heard, buffer, out),
-        Happened::Sent { at, node, packet, taken } => put_sent(names, *at, *node, packet, *taken, buffer, out),
-        Happened::Silent { at, message } => put_named(*at, b" silent ", names.message(*message), buffer, out),
-        Happened::Started { at, node, task, inputs } => put_started(names, *at, *node, *task, inputs, buffer, out),
-        Happened::Off { at, node, task } => put_task(names, *at, b" off", *node, *task, buffer, out),
-        Happened::Ended { at, node, task, value } => put_ended(names, *at, *node, *task, *value, buffer, out),
-        Happened::Void { at, node, task } => put_task(names, *at, b" void", *node, *task, buffer, out),
-        Happened::Requested { at, mode } => put_named(*at, b" request ", names.mode(*mode as usize), buffer, out),
-        Happened::Restarted { at, node } => put_named(*at, b" restart ", names.node(*node as usize), buffer, out),
+        Happened::Beacon { at, beacon, heard } => put_beacon(
+            names, *at, *beacon, *heard, buffer, out,
+        ),
+        Happened::Sent {
+            at,
+            node,
+            packet,
+            taken,
+        } => put_sent(names, *at, *node, packet, *taken, buffer, out),
+        Happened::Silent { at, message } => put_named(
+            *at,
+            b" silent ",
+            names.message(*message),
+            buffer,
+            out,
+        ),
+        Happened::Started {
+            at,
+            node,
+            task,
+            inputs,
+        } => put_started(names, *at, *node, *task, inputs, buffer, out),
+        Happened::Off { at, node, task } => put_task(
+            names, *at, b" off", *node, *task, buffer, out,
+        ),
+        Happened::Ended {
+            at,
+            node,
+            task,
+            value,
+        } => put_ended(names, *at, *node, *task, *value, buffer, out),
+        Happened::Void { at, node, task } => put_task(
+            names, *at, b" void", *node, *task, buffer, out,
+        ),
+        Happened::Requested { at, mode } => put_named(
+            *at,
+            b" request ",
+            names.mode(*mode as usize),
+            buffer,
+            out,
+        ),
+        Happened::Restarted { at, node } => put_named(
+            *at,
+            b" restart ",
+            names.node(*node as usize),
+            buffer,
+            out,
+        ),
     }
 }
 
 /// Puts the last line, behind so many others.
-pub(crate) fn put_done<S: Sink>(
-    events: u64,
-    buffer: &mut Buffer,
-    out: &mut S,
-) -> Result<(), Failed>
+pub(crate) fn put_done<S: Sink>(events: u64, buffer: &mut Buffer, out: &mut S) -> Result<(), Failed>
     ensures ok { OnOk result (Passes (S.held out.old) (S.held out.new)
         (buffer.old ++ done_line events) buffer.new) }
     ensures err { OnErr result (AddsFront (S.held out.old) (S.held out.new)

@@ -12,8 +12,7 @@ pub loop-node-preserved : goal.loop-node-preserved
 loop-node-preserved g c =
     let set = c.args.names.now in
     let k = c.loop-node.node in
-    let within : k < length (below (length set.nodes)) = omega (arith, length-below (length set.nodes), c.loop-node-test.true, c.nodes-node-end.ensures) in
-    (
+    let within : k < length (below (length set.nodes)) = omega (arith, length-below (length set.nodes), c.loop-node-test.true, c.nodes-node-end.ensures) in (
       record {
         passed = passes_more (node_part set c.args.nodes) _ _ _ _ c.loop-node.buffer _ (below (length set.nodes)) k 0 within c.loop-node.invariant.0.passed (passes_same _ _ _ _ _ _ (node_here set c.args.nodes c.loop-node.left k within c.loop-node.invariant.1) c.in_ok-put_node.ensures.ok);
         counted = omega (arith, c.in_ok-put_node.ensures.counted, c.loop-node.invariant.0.counted);
