@@ -91,7 +91,8 @@ fn put_nodes<S: Sink>(
 /// Puts the values of a packet, each behind a blank.
 fn put_values<S: Sink>(values: &Values, buffer: &mut Buffer, out: &mut S) -> Result<(), Failed>
     ensures ok { OnOk result
-        (Passes (S.held out.old) (S.held out.new) (buffer.old ++ values_text values.now) buffer.new) }
+        (Passes (S.held out.old) (S.held out.new)
+        (buffer.old ++ values_text values.now) buffer.new) }
     ensures err { OnErr result
         (AddsFront (S.held out.old) (S.held out.new) (buffer.old ++ values_text values.now)) }
     ensures counted { S.faults out.old ≤ S.faults out.new }
@@ -118,7 +119,8 @@ fn input_bytes<'a>(input: &Option<i64>, digits: &'a mut Digits) -> &'a [u8]
 /// Puts the inputs of a start, each behind a blank.
 fn put_inputs<S: Sink>(inputs: &Inputs, buffer: &mut Buffer, out: &mut S) -> Result<(), Failed>
     ensures ok { OnOk result
-        (Passes (S.held out.old) (S.held out.new) (buffer.old ++ inputs_text inputs.now) buffer.new) }
+        (Passes (S.held out.old) (S.held out.new)
+        (buffer.old ++ inputs_text inputs.now) buffer.new) }
     ensures err { OnErr result
         (AddsFront (S.held out.old) (S.held out.new) (buffer.old ++ inputs_text inputs.now)) }
     ensures counted { S.faults out.old ≤ S.faults out.new }
@@ -163,9 +165,11 @@ fn put_task<S: Sink>(
     out: &mut S,
 ) -> Result<(), Failed>
     ensures ok { OnOk result (Passes (S.held out.old) (S.held out.new)
-        (buffer.old ++ (signed_spelled at ++ ((word.now ++ task_text names.now node task) ++ 10 ∷ []))) buffer.new) }
+        (buffer.old ++ (signed_spelled at
+            ++ ((word.now ++ task_text names.now node task) ++ 10 ∷ []))) buffer.new) }
     ensures err { OnErr result (AddsFront (S.held out.old) (S.held out.new)
-        (buffer.old ++ (signed_spelled at ++ ((word.now ++ task_text names.now node task) ++ 10 ∷ [])))) }
+        (buffer.old ++ (signed_spelled at
+            ++ ((word.now ++ task_text names.now node task) ++ 10 ∷ [])))) }
     ensures counted { S.faults out.old ≤ S.faults out.new }
     ensures same_flushes { S.flushes out.new ≡ S.flushes out.old }
     ensures failed { OnErr result (Rose (S.faults out.old) (S.faults out.new)) }
