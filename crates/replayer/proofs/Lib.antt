@@ -4,3 +4,7 @@ pub mod Spelling
 pub mod Fronts
 pub mod Limits
 pub mod Lengths
+pub mod Decimals
+pub mod Joining
+pub mod NodeTexts
+pub mod LineTexts

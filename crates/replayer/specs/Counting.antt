@@ -1,5 +1,5 @@
 -- What is counted of a replay
-use Rattle.std.specs.Prelude.{Bool, true, false, List, [], length, filter, ℤ, pos, ◌+ℤ◌}
+use Rattle.std.specs.Prelude.{ℕ, ◌+◌, ◌*◌, ◌^◌, ◌<◌, ◌≤◌, Bool, true, false, List, [], length, filter, ℤ, pos, neg_ℤ, ◌+ℤ◌, ◌≤ℤ◌, if◌then◌else◌}
 use Rattle.std.specs.List.{flat_map, fold}
 use Rattle.world_core.specs.declared.happened.Happened.{Happened}
 use Rattle.world_core.specs.declared.happened.Happened.TheVariants.{Beacon, Sent, Silent, Started, Off, Ended, Void, Requested, Restarted}
@@ -20,6 +20,31 @@ abbrev pub sent_values : Happened → List ℤ
 sent_values (Sent at node packet taken) = packet.values
 sent_values _ = []
 
+-- a number and values
+abbrev pub sum_from : ℤ → List ℤ → ℤ
+sum_from start xs = fold (λ sum x. sum +ℤ x) start xs
+
 -- how many events there were, how many of them sent, how many started a task, and the sum of all values sent
 abbrev pub counts_of : List Happened → Counts
 counts_of hs = record { events = length hs; sent = length (filter is_send hs); started = length (filter is_start hs); values = fold (λ sum x. sum +ℤ x) (pos 0) (flat_map sent_values hs) }
+
+-- what is counted with one event more
+abbrev pub with_one : Counts → Happened → Counts
+with_one c h = record {
+  events = c.events + 1;
+  sent = c.sent + (if is_send h then 1 else 0);
+  started = c.started + (if is_start h then 1 else 0);
+  values = sum_from c.values (sent_values h);
+}
+
+-- a sum of four numbers of 64 bits for each event
+pub record IsSumFor (events : ℕ) (sum : ℤ) : Type 0 where
+  pub least : neg_ℤ (pos (events * 2 ^ 65)) ≤ℤ sum
+  pub most : sum ≤ℤ pos (events * 2 ^ 65)
+
+-- one event more can be counted: there were fewer than so many, and no more of a kind than in all
+pub record HasRoom (c : Counts) : Type 0 where
+  pub events : c.events < 2 ^ 61
+  pub sent : c.sent ≤ c.events
+  pub started : c.started ≤ c.events
+  pub values : IsSumFor c.events c.values

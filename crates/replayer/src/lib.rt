@@ -3,5 +3,10 @@
 
 mod counts;
 pub mod laws;
+mod line;
+mod names;
+#[cfg(test)]
+mod tests;
+mod tracer;
 
 pub use counts::Counts;

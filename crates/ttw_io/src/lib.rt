@@ -1,6 +1,7 @@
 //! Files and sinks: all that the product reads and writes outside itself.
 #![tactic(auto)]
 
+mod buffer;
 mod memory;
 mod outside;
 mod reading;
@@ -9,6 +10,7 @@ mod system;
 mod tests;
 mod writing;
 
+pub use buffer::Buffer;
 pub use memory::{MemFiles, MemSink, SureFiles, SureSink};
 pub use outside::{Failed, Files, Sink};
 pub use reading::{ReadEnd, read_all};

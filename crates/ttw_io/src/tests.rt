@@ -135,3 +135,40 @@ fn standard_output(rt: HostRuntime) -> Result<(), Fail> {
     out.flush()?;
     Ok(())
 }
+
+#[test]
+fn buffered_texts(rt: HostRuntime) -> Result<(), Fail> {
+    // A sink that takes 1 byte, or 7, in a call, and a room that two of the texts fill.
+    for piece in [1, 7] {
+        let mut out = MemSink::make(rt.alloc(), 64, piece, Vec::new(rt.alloc()))?;
+        let mut buffer = Buffer::make(rt.alloc(), 8)?;
+        buffer.put(b"four", &mut out)?;
+        buffer.put(b"more", &mut out)?;
+        assert!(rt; out.bytes().is_empty(), "both have room");
+        buffer.put_all(&[b"!", b"", b"longer than the room", b"end"], &mut out)?;
+        assert_eq!(rt; out.bytes(), b"fourmore!longer than the room".as_slice());
+        buffer.empty(&mut out)?;
+        assert_eq!(rt; out.bytes(), b"fourmore!longer than the roomend".as_slice());
+        buffer.empty(&mut out)?;
+        assert_eq!(rt; out.bytes().len(), 32, "nothing is written twice");
+    }
+    Ok(())
+}
+
+#[test]
+fn buffer_without_room(rt: HostRuntime) -> Result<(), Fail> {
+    let mut out = MemSink::make(rt.alloc(), 8, 8, Vec::new(rt.alloc()))?;
+    let mut buffer = Buffer::make(rt.alloc(), 0)?;
+    buffer.put_all(&[b"at", b" once"], &mut out)?;
+    assert_eq!(rt; out.bytes(), b"at once".as_slice());
+    Ok(())
+}
+
+#[test]
+fn buffer_before_a_failing_write(rt: HostRuntime) -> Result<(), Fail> {
+    let mut out = MemSink::make(rt.alloc(), 64, 3, vec![in rt.alloc(); 2]?)?;
+    let mut buffer = Buffer::make(rt.alloc(), 4)?;
+    assert_eq!(rt; buffer.put_all(&[b"four", b"more"], &mut out), Err(Failed));
+    assert_eq!(rt; out.bytes(), b"fou".as_slice());
+    Ok(())
+}

@@ -1,0 +1,32 @@
+use Rattle.std.proofs.Common.{rules, FitsSigned, w64}
+use Rattle.std.specs.Prelude.{codes, ◌++◌, ◌∷◌, []}
+use Rattle.std.proofs.lemmas.Int.{to_z-of_z}
+use Rattle.ttw_text.specs.Numbers.{signed_spelled, spelled}
+use Rattle.replayer.specs.Trace.{inputs_text, message_name, mode_name, node_name, nodes_text, task_text, values_text}
+use Rattle.replayer.proofs.Joining.{passes_same, front_same, three_ok, three_err, mid_err, head_err}
+use Rattle.replayer.proofs.LineTexts.{line_of, two_names, packet_text, sent_text, beacon_text, beacon_words}
+use Rattle.replayer.proofs.line.put_sent.Goals as goal
+
+pub returns-clause-ok : goal.returns-clause-ok
+returns-clause-ok g c =
+    let fits : FitsSigned w64 c.args.at = search rules in
+    let head = simp to_z-of_z at c.in_ok-put_packet.ensures.ok in
+    three_ok c.put.result _ _ _ _ c.args.buffer.now _ _ _ _ (10 ∷ []) _ _ head c.in_ok-put_nodes.ensures.ok (sent_text (signed_spelled c.args.at) (codes " send ") (node_name c.args.names.now c.args.node) (message_name c.args.names.now c.args.packet.now.message) (values_text c.args.packet.now.values) (codes " taken") (nodes_text c.args.names.now c.args.taken) (10 ∷ [])) c.put.ensures.ok
+
+pub returns-clause-err : goal.returns-clause-err
+returns-clause-err g c =
+    let fits : FitsSigned w64 c.args.at = search rules in
+    let head = simp to_z-of_z at c.in_ok-put_packet.ensures.ok in
+    three_err c.put.result _ _ _ _ c.args.buffer.now _ _ _ _ (10 ∷ []) _ head c.in_ok-put_nodes.ensures.ok (sent_text (signed_spelled c.args.at) (codes " send ") (node_name c.args.names.now c.args.node) (message_name c.args.names.now c.args.packet.now.message) (values_text c.args.packet.now.values) (codes " taken") (nodes_text c.args.names.now c.args.taken) (10 ∷ [])) c.put.ensures.err
+
+pub returns-in_err-put_nodes-clause-err : goal.returns-in_err-put_nodes-clause-err
+returns-in_err-put_nodes-clause-err g c =
+    let fits : FitsSigned w64 c.args.at = search rules in
+    let head = simp to_z-of_z at c.in_ok-put_packet.ensures.ok in
+    mid_err c.from_residual-in_err-put_nodes.result _ _ _ c.args.buffer.now _ _ _ (10 ∷ []) _ head (sent_text (signed_spelled c.args.at) (codes " send ") (node_name c.args.names.now c.args.node) (message_name c.args.names.now c.args.packet.now.message) (values_text c.args.packet.now.values) (codes " taken") (nodes_text c.args.names.now c.args.taken) (10 ∷ [])) c.in_err-put_nodes.ensures.err
+
+pub returns-in_err-put_packet-clause-err : goal.returns-in_err-put_packet-clause-err
+returns-in_err-put_packet-clause-err g c =
+    let fits : FitsSigned w64 c.args.at = search rules in
+    let head = simp to_z-of_z at c.in_err-put_packet.ensures.err in
+    head_err c.from_residual.result _ _ c.args.buffer.now _ (nodes_text c.args.names.now c.args.taken) (10 ∷ []) _ (sent_text (signed_spelled c.args.at) (codes " send ") (node_name c.args.names.now c.args.node) (message_name c.args.names.now c.args.packet.now.message) (values_text c.args.packet.now.values) (codes " taken") (nodes_text c.args.names.now c.args.taken) (10 ∷ [])) head

@@ -1,0 +1,83 @@
+//! The trace of a replay as it is written, and what is counted of it.
+
+ghost use Rattle.std.specs.Prelude.{◌≡◌, ◌≤◌, ◌++◌, [], IfOk, OnErr, OnOk};
+ghost use Rattle.std.specs.Io.KnownBytes.{append_known};
+ghost use Rattle.ttw_io.specs.Buffering.{Passes};
+ghost use Rattle.ttw_io.specs.Outside.{AddsFront, Rose};
+ghost use Rattle.replayer.specs.Counting.{HasRoom, counts_of, with_one};
+ghost use Rattle.replayer.specs.Trace.{done_line, line};
+
+use crate::counts::Counts;
+use crate::line::{put_done, put_line};
+use crate::names::Names;
+use app_graph::ModeSet;
+use std::alloc::{AllocError, Global};
+use ttw_io::{Buffer, Failed, Sink};
+use world_core::Happened;
+
+/// How many bytes of a trace are held back at most, so that not each line is a write.
+const HELD_BACK: usize = 65536;
+
+/// Writes a line for each thing that happened, and counts it.
+#[derive(Drop)]
+pub(crate) struct Tracer<'a> {
+    names: Names<'a>,
+    buffer: Buffer,
+    counts: Counts,
+}
+
+impl<'a> Tracer<'a> {
+    /// Nothing happened yet in a world of this set.
+    pub(crate) fn make(alloc: Global, set: &'a ModeSet) -> Result<Self, AllocError>
+        ensures start { IfOk result (λ t.
+            t ≡ record { names = set.now; buffer = []; counts = counts_of [] }) }
+        ensures room { IfOk result (λ t. HasRoom t.counts) }
+    {
+        Ok(Tracer {
+            names: Names::make(alloc, set)?,
+            buffer: Buffer::make(alloc, HELD_BACK)?,
+            counts: Counts::none(),
+        })
+    }
+
+    /// Writes the line of what happened, and counts it. Lines may still be held back.
+    pub(crate) fn tell<S: Sink>(&mut self, happened: &Happened, out: &mut S) -> Result<(), Failed>
+        requires { HasRoom self.old.counts }
+
+        ensures ok { OnOk result (Passes (S.held out.old) (S.held out.new)
+            (self.old.buffer ++ line self.old.names happened.now) self.new.buffer) }
+        ensures counted { self.new.counts ≡ with_one self.old.counts happened.now }
+        ensures err { OnErr result (AddsFront (S.held out.old) (S.held out.new)
+            (self.old.buffer ++ line self.old.names happened.now)) }
+
+        ensures same_names { self.new.names ≡ self.old.names }
+        ensures faults { S.faults out.old ≤ S.faults out.new }
+        ensures same_flushes { S.flushes out.new ≡ S.flushes out.old }
+        ensures failed { OnErr result (Rose (S.faults out.old) (S.faults out.new)) }
+    {
+        self.counts.add(happened);
+        put_line(&self.names, happened, &mut self.buffer, out)
+    }
+    /// Writes the last line, and all that is held back.
+    pub(crate) fn done<S: Sink>(&mut self, out: &mut S) -> Result<(), Failed>
+        ensures ok { OnOk result (S.held out.new ≡ append_known (S.held out.old)
+            (self.old.buffer ++ done_line self.old.counts.events)) }
+        ensures err { OnErr result (AddsFront (S.held out.old) (S.held out.new)
+            (self.old.buffer ++ done_line self.old.counts.events)) }
+
+        ensures same_counts { self.new.counts ≡ self.old.counts }
+        ensures faults { S.faults out.old ≤ S.faults out.new }
+        ensures same_flushes { S.flushes out.new ≡ S.flushes out.old }
+        ensures failed { OnErr result (Rose (S.faults out.old) (S.faults out.new)) }
+    {
+        put_done(self.counts.events, &mut self.buffer, out)?;
+        self.buffer.empty(out)
+    }
+
+    /// What was counted.
+    pub(crate) fn counts(&self) -> Counts
+        ensures { result ≡ self.now.counts }
+    {
+        self.counts
+    }
+}
