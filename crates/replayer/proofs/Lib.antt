@@ -8,3 +8,6 @@ pub mod Decimals
 pub mod Joining
 pub mod NodeTexts
 pub mod LineTexts
+pub mod EventSteps
+pub mod LineSteps
+pub mod WholeScripts

@@ -1,3 +1,5 @@
 pub mod Trace
 pub mod Counting
 pub mod Scripts
+pub mod Replaying
+pub mod Running

@@ -5,8 +5,10 @@ mod counts;
 pub mod laws;
 mod line;
 mod names;
+mod replaying;
 #[cfg(test)]
 mod tests;
 mod tracer;
 
 pub use counts::Counts;
+pub use replaying::{ReplayEnd, replay};

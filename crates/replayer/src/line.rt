@@ -166,10 +166,10 @@ fn put_task<S: Sink>(
 ) -> Result<(), Failed>
     ensures ok { OnOk result (Passes (S.held out.old) (S.held out.new)
         (buffer.old ++ (signed_spelled at
-            ++ ((word.now ++ task_text names.now node task) ++ 10 ∷ []))) buffer.new) }
+        ++ ((word.now ++ task_text names.now node task) ++ 10 ∷ []))) buffer.new) }
     ensures err { OnErr result (AddsFront (S.held out.old) (S.held out.new)
         (buffer.old ++ (signed_spelled at
-            ++ ((word.now ++ task_text names.now node task) ++ 10 ∷ [])))) }
+        ++ ((word.now ++ task_text names.now node task) ++ 10 ∷ [])))) }
     ensures counted { S.faults out.old ≤ S.faults out.new }
     ensures same_flushes { S.flushes out.new ≡ S.flushes out.old }
     ensures failed { OnErr result (Rose (S.faults out.old) (S.faults out.new)) }

@@ -1,6 +1,6 @@
 //! The trace of a replay as it is written, and what is counted of it.
 
-ghost use Rattle.std.specs.Prelude.{◌≡◌, ◌≤◌, ◌++◌, [], IfOk, OnErr, OnOk};
+ghost use Rattle.std.specs.Prelude.{◌≡◌, ◌^◌, ◌<◌, ◌≤◌, ◌++◌, [], IfOk, OnErr, OnOk};
 ghost use Rattle.std.specs.Io.KnownBytes.{append_known};
 ghost use Rattle.ttw_io.specs.Buffering.{Passes};
 ghost use Rattle.ttw_io.specs.Outside.{AddsFront, Rose};
@@ -47,6 +47,7 @@ impl<'a> Tracer<'a> {
         ensures ok { OnOk result (Passes (S.held out.old) (S.held out.new)
             (self.old.buffer ++ line self.old.names happened.now) self.new.buffer) }
         ensures counted { self.new.counts ≡ with_one self.old.counts happened.now }
+        ensures room { self.new.counts.events < 2 ^ 61 → HasRoom self.new.counts }
         ensures err { OnErr result (AddsFront (S.held out.old) (S.held out.new)
             (self.old.buffer ++ line self.old.names happened.now)) }
 
@@ -58,6 +59,7 @@ impl<'a> Tracer<'a> {
         self.counts.add(happened);
         put_line(&self.names, happened, &mut self.buffer, out)
     }
+
     /// Writes the last line, and all that is held back.
     pub(crate) fn done<S: Sink>(&mut self, out: &mut S) -> Result<(), Failed>
         ensures ok { OnOk result (S.held out.new ≡ append_known (S.held out.old)

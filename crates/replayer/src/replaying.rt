@@ -1,0 +1,205 @@
+//! Replays of scripts.
+
+ghost use Rattle.std.specs.Prelude.{◌≡◌, ◌≤◌, ℕ, List, IfOk, IsErrOf, OnErr, OnOk, map};
+ghost use Rattle.app_graph.specs.Validation.{KeepsRules};
+ghost use Rattle.replay_script.specs.Fitting.{FitsScript};
+ghost use Rattle.ttw_io.specs.Outside.{Rose};
+ghost use Rattle.runtime_model.specs.Script.{until_beacon, go};
+ghost use Rattle.replayer.specs.Replaying.{IsCut, IsNewWorld, IsReplayed, OfReplay};
+ghost use Rattle.replayer.specs.Running.{Does, MayDo, Stops, line_of_event, under};
+ghost use Rattle.replayer.specs.Scripts.{plain_line};
+
+use crate::counts::Counts;
+use crate::laws::{beacons_come_soon, scripts_are_short, scripts_spell_once};
+use crate::tracer::Tracer;
+use app_graph::ModeSet;
+use replay_script::Line;
+use std::alloc::{AllocError, Global};
+use task_body::TaskBody;
+use ttw_io::{Failed, Sink};
+use world_core::{Event, World};
+
+/// Why a replay did not come to its end.
+#[derive(Clone, Copy, Debug, PartialEq, Eq)]
+pub enum ReplayEnd {
+    /// A write failed: a prefix of the trace was written.
+    WriteFault,
+    /// Memory ran out before the first event: nothing was written.
+    Memory,
+}
+
+impl From<AllocError> for ReplayEnd {
+    ghost use Rattle.std.specs.Prelude.{◌≡◌};
+    ghost use Rattle.replayer.specs.declared.replaying.ReplayEnd.TheVariants.{Memory};
+
+    ghost from_gives = { λ _ end. end ≡ Memory };
+
+    fn from(_: AllocError) -> Self {
+        ReplayEnd::Memory
+    }
+}
+
+impl From<Failed> for ReplayEnd {
+    ghost use Rattle.std.specs.Prelude.{◌≡◌};
+    ghost use Rattle.replayer.specs.declared.replaying.ReplayEnd.TheVariants.{WriteFault};
+
+    ghost from_gives = { λ _ end. end ≡ WriteFault };
+
+    fn from(_: Failed) -> Self {
+        ReplayEnd::WriteFault
+    }
+}
+
+/// Performs an event, and writes its line.
+fn perform<S: Sink>(
+    event: Event,
+    world: &mut World,
+    bodies: &mut Vec<Box<dyn TaskBody>>,
+    tracer: &mut Tracer<'_>,
+    out: &mut S,
+) -> Result<(), Failed>
+    requires { MayDo (under world.old (map seen bodies.old.items) (S.held out.old) tracer.old) (line_of_event event) }
+
+    ensures ok { OnOk result (Does
+        (under world.old (map seen bodies.old.items) (S.held out.old) tracer.old) (line_of_event event)
+        (under world.new (map seen bodies.new.items) (S.held out.new) tracer.new)) }
+    ensures err { OnErr result (Stops
+        (under world.old (map seen bodies.old.items) (S.held out.old) tracer.old) (line_of_event event)
+        (S.held out.new)) }
+
+    ensures failed { OnErr result (Rose (S.faults out.old) (S.faults out.new)) }
+    ensures counted { S.faults out.old ≤ S.faults out.new }
+    ensures same_flushes { S.flushes out.new ≡ S.flushes out.old }
+{
+    let happened = world.step(event, bodies);
+    tracer.tell(&happened, out)
+}
+
+/// Performs so many Advances without loss.
+fn advance<S: Sink>(
+    n: u64,
+    world: &mut World,
+    bodies: &mut Vec<Box<dyn TaskBody>>,
+    tracer: &mut Tracer<'_>,
+    out: &mut S,
+) -> Result<(), Failed>
+    requires { MayDo (under world.old (map seen bodies.old.items) (S.held out.old) tracer.old) (go n) }
+
+    ensures ok { OnOk result (Does
+        (under world.old (map seen bodies.old.items) (S.held out.old) tracer.old) (go n)
+        (under world.new (map seen bodies.new.items) (S.held out.new) tracer.new)) }
+    ensures err { OnErr result (Stops
+        (under world.old (map seen bodies.old.items) (S.held out.old) tracer.old) (go n)
+        (S.held out.new)) }
+
+    ensures failed { OnErr result (Rose (S.faults out.old) (S.faults out.new)) }
+    ensures counted { S.faults out.old ≤ S.faults out.new }
+    ensures same_flushes { S.flushes out.new ≡ S.flushes out.old }
+{
+    for _ in 0..n {
+        perform(Event::Advance(0), world, bodies, tracer, out)?;
+    }
+    Ok(())
+}
+
+/// Performs Advances without loss until the next entry is a beacon.
+fn advance_to_beacon<S: Sink>(
+    world: &mut World,
+    bodies: &mut Vec<Box<dyn TaskBody>>,
+    tracer: &mut Tracer<'_>,
+    out: &mut S,
+) -> Result<(), Failed>
+    requires { MayDo (under world.old (map seen bodies.old.items) (S.held out.old) tracer.old) until_beacon }
+
+    ensures ok { OnOk result (Does
+        (under world.old (map seen bodies.old.items) (S.held out.old) tracer.old) until_beacon
+        (under world.new (map seen bodies.new.items) (S.held out.new) tracer.new)) }
+    ensures err { OnErr result (Stops
+        (under world.old (map seen bodies.old.items) (S.held out.old) tracer.old) until_beacon
+        (S.held out.new)) }
+
+    ensures failed { OnErr result (Rose (S.faults out.old) (S.faults out.new)) }
+    ensures counted { S.faults out.old ≤ S.faults out.new }
+    ensures same_flushes { S.flushes out.new ≡ S.flushes out.old }
+{
+    for _ in 0..u64::MAX {
+        if world.beacon_next() {
+            return Ok(());
+        }
+        perform(Event::Advance(0), world, bodies, tracer, out)?;
+    }
+    Ok(())
+}
+
+/// Performs the events of a line.
+fn perform_line<S: Sink>(
+    line: Line,
+    world: &mut World,
+    bodies: &mut Vec<Box<dyn TaskBody>>,
+    tracer: &mut Tracer<'_>,
+    out: &mut S,
+) -> Result<(), Failed>
+    requires { MayDo (under world.old (map seen bodies.old.items) (S.held out.old) tracer.old) (plain_line line) }
+
+    ensures ok { OnOk result (Does
+        (under world.old (map seen bodies.old.items) (S.held out.old) tracer.old) (plain_line line)
+        (under world.new (map seen bodies.new.items) (S.held out.new) tracer.new)) }
+    ensures err { OnErr result (Stops
+        (under world.old (map seen bodies.old.items) (S.held out.old) tracer.old) (plain_line line)
+        (S.held out.new)) }
+
+    ensures failed { OnErr result (Rose (S.faults out.old) (S.faults out.new)) }
+    ensures counted { S.faults out.old ≤ S.faults out.new }
+    ensures same_flushes { S.flushes out.new ≡ S.flushes out.old }
+{
+    match line {
+        Line::Go(n) => advance(n, world, bodies, tracer, out),
+        Line::UntilBeacon => advance_to_beacon(world, bodies, tracer, out),
+        Line::Lose(nodes) => perform(Event::Advance(nodes), world, bodies, tracer, out),
+        Line::Request(mode) => perform(Event::Request(mode), world, bodies, tracer, out),
+        Line::Restart(node) => perform(Event::Restart(node), world, bodies, tracer, out),
+    }
+}
+
+/// Performs the events of the lines of a script, and writes their trace to the sink as they happen:
+/// a line for each, and the last one. Answers their counts. The world is new: it stands for no events
+/// of the set with some right schedules and these bodies.
+///
+/// Errors: a failed write, after which a prefix of the trace was written; want of memory, which comes
+/// before the first event. No event takes memory. docs/TRACE.md has the lines, docs/SCRIPT.md what a
+/// script says.
+pub fn replay<S: Sink>(
+    alloc: Global,
+    world: &mut World,
+    set: &ModeSet,
+    lines: &[Line],
+    bodies: &mut Vec<Box<dyn TaskBody>>,
+    out: &mut S,
+) -> Result<Counts, ReplayEnd>
+    requires rules { KeepsRules set.now }
+    requires fits { FitsScript set.now lines.now }
+    requires new { IsNewWorld set.now world.old (map seen bodies.old.items) }
+
+    ensures whole { IfOk result (λ counts.
+        OfReplay set.now lines.now world.old (map seen bodies.old.items)
+        (IsReplayed set.now (map seen bodies.old.items) (S.held out.old) (S.held out.new) counts
+        world.new (map seen bodies.new.items))) }
+    ensures cut { IsErrOf result ReplayEnd.WriteFault →
+        OfReplay set.now lines.now world.old (map seen bodies.old.items)
+        (IsCut set.now (map seen bodies.old.items) (S.held out.old) (S.held out.new)) }
+    ensures fault { IsErrOf result ReplayEnd.WriteFault → Rose (S.faults out.old) (S.faults out.new) }
+    ensures memory { IsErrOf result ReplayEnd.Memory → S.held out.new ≡ S.held out.old }
+
+    ensures counted { S.faults out.old ≤ S.faults out.new }
+    ensures same_flushes { S.flushes out.new ≡ S.flushes out.old }
+{
+    scripts_spell_once();
+    scripts_are_short();
+    beacons_come_soon();
+    let mut tracer = Tracer::make(alloc, set)?;
+    for line in lines {
+        perform_line(*line, world, bodies, &mut tracer, out)?;
+    }
+    tracer.done(out)?;
+    Ok(tracer.counts())
+}
