@@ -1,26 +1,32 @@
 //! Beacons written and read.
 
 ghost use Rattle.std.specs.Prelude.{◌≡◌, ◌↔◌, Ok, Err, IsTrue};
-ghost use Rattle.beacon_codec.specs.Beacon.{BeaconBytes, IsAmong, FirstFault};
+ghost use Rattle.beacon_codec.specs.Beacon.{BeaconBytes, IsAmong, FirstFault, flags_of};
 ghost use Rattle.beacon_codec.specs.declared.packet.Beacon.{Beacon};
 ghost use Rattle.beacon_codec.specs.declared.packet.BeaconFault.{BeaconFault};
 
 use crate::packet::{Beacon, BeaconFault};
 use byteorder::{BigEndian, ByteOrder};
 
-/// The bytes of a beacon.
-pub fn encode(b: Beacon) -> [u8; 4]
-    requires { ¬ (IsTrue b.trigger × IsTrue b.opening) }
-    ensures { BeaconBytes b result }
+/// The flags of a beacon as its last byte.
+pub fn flags(b: Beacon) -> u8
+    ensures { result ≡ flags_of b }
 {
-    let flags = if b.trigger {
+    if b.trigger {
         1
     } else if b.opening {
         2
     } else {
         0
-    };
-    let mut bytes = [0, 0, b.mode, flags];
+    }
+}
+
+/// The bytes of a beacon.
+pub fn encode(b: Beacon) -> [u8; 4]
+    requires { ¬ (IsTrue b.trigger × IsTrue b.opening) }
+    ensures { BeaconBytes b result }
+{
+    let mut bytes = [0, 0, b.mode, flags(b)];
     BigEndian::write_u16(&mut bytes, b.round);
     bytes
 }

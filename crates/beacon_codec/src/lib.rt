@@ -6,5 +6,5 @@ mod packet;
 #[cfg(test)]
 mod tests;
 
-pub use codec::{decode, encode};
+pub use codec::{decode, encode, flags};
 pub use packet::{Beacon, BeaconFault};

@@ -1,65 +1,100 @@
--- The causes lead from the x of the newest constraint back to that constraint: no variable comes twice on the way, and round the cycle the bounds sum below 0
-use Rattle.std.proofs.Common.{◌≡◌, ◌≢◌, ℕ, zero, suc, ◌+◌, ◌-◌, ◌<◌, ◌≤◌, List, [], ◌∷◌, length, map, set, drop, refl, sym, ◌∙◌, ap, subst, arith, ◌⊎◌, inl, inr, ⊎_elim, ℤ, pos, ◌-ℤ◌, ◌≤ℤ◌, ◌<ℤ◌}
+-- The causes lead from the last constraint back to the variable that it would raise: no variable comes twice on the way, and round the cycle the bounds sum below 0
+use Rattle.std.proofs.Common.{◌≡◌, ℕ, zero, suc, ◌+◌, ◌-◌, ◌<◌, ◌≤◌, Bool, true, false, cond, List, [], ◌∷◌, length, map, set, drop, refl, sym, ◌∙◌, ap, subst, arith, ◌⊎◌, inl, inr, ⊎_elim, ℤ, pos, ◌-ℤ◌, ◌≤ℤ◌, ◌<ℤ◌}
+use Rattle.std.specs.Prelude.{int_lt}
 use Rattle.std.specs.List.{AllByRecursion}
 use Rattle.std.proofs.lemmas.Int.{ints}
-use Rattle.std.proofs.Math.Seq.{drop-length}
 use Rattle.std.proofs.lemmas.Bool.{cases_lt}
-use Rattle.std.proofs.lemmas.List.{length-set, drop-set}
+use Rattle.std.proofs.lemmas.List.{length-set, drop-set, drop_all}
 use Rattle.std.proofs.lemmas.List.Elements.{All-from_recursion}
 use Rattle.tick_num.specs.declared.differences.Diff.{Diff}
 use Rattle.tick_num.specs.Differences.{diff, InRange, NegativeCycle, named, sum_ℤ, Closes}
 use Rattle.tick_num.proofs.Pigeons.{two_alike}
 use Rattle.diff_store.specs.Leasts.{at}
-use Rattle.diff_store.specs.Causes.{beside, newest, IsCause, LeadsHome}
+use Rattle.diff_store.specs.Causes.{beside, marked, IsCause, Descends, LeadsHome}
 
--- the variable k causes back from the x of the newest constraint
-unfoldable pub back : List Diff → List ℕ → ℕ → ℕ
-back ds causes zero = (newest ds).x
-back ds causes (suc k) = (at ds (beside causes (back ds causes k))).x
+-- the variable k causes back from x
+unfoldable pub back : List Diff → List ℕ → ℕ → ℕ → ℕ
+back ds causes x zero = x
+back ds causes x (suc k) = (at ds (beside causes (back ds causes x k))).x
 
 -- ---- the order along causes
--- a rose more than y, or as much and y was raised after it
-abbrev pub Precedes : (ℕ → ℤ) → (ℕ → ℤ) → (ℕ → ℕ) → ℕ → ℕ → Type 0
-Precedes base v time a y = ((v y -ℤ base y) <ℤ (v a -ℤ base a)) ⊎ (((v y -ℤ base y) ≤ℤ (v a -ℤ base a)) × (time a < time y))
+-- how far a variable rose; one that did not counts as above all that did
+abbrev pub gain : (ℕ → ℤ) → (ℕ → ℤ) → ℕ → ℤ
+gain base v y = cond (int_lt (base y) (v y)) (v y -ℤ base y) (pos 30_000_000_000_000_000)
 
-module _ (base v : ℕ → ℤ) (time : ℕ → ℕ) where
-  precedes_trans : (a b c : ℕ) → Precedes base v time a b → Precedes base v time b c → Precedes base v time a c
+gain_is : (base v : ℕ → ℤ) (y : ℕ) → ((base y <ℤ v y) × (gain base v y ≡ v y -ℤ base y)) ⊎ ((v y ≤ℤ base y) × (gain base v y ≡ pos 30_000_000_000_000_000))
+gain_is base v y = by (int_lt (base y) (v y)) refl
+  where
+    by : (t : Bool) → int_lt (base y) (v y) ≡ t → ((base y <ℤ v y) × (cond t (v y -ℤ base y) (pos 30_000_000_000_000_000) ≡ v y -ℤ base y)) ⊎ ((v y ≤ℤ base y) × (cond t (v y -ℤ base y) (pos 30_000_000_000_000_000) ≡ pos 30_000_000_000_000_000))
+    by true e = inl (omega (arith, ints), refl)
+    by false e = inr (omega (arith, ints), refl)
+
+gain_raised : (base v : ℕ → ℤ) (y : ℕ) → base y <ℤ v y → gain base v y ≡ v y -ℤ base y
+gain_raised base v y h = ⊎_elim
+    (λ (a : (base y <ℤ v y) × (gain base v y ≡ v y -ℤ base y)). a.1)
+    (λ (b : (v y ≤ℤ base y) × (gain base v y ≡ pos 30_000_000_000_000_000)). absurd (let b0 = b.0 in omega (arith, ints, h, b0)))
+    (gain_is base v y)
+
+gain_kept : (base v : ℕ → ℤ) (y : ℕ) → v y ≡ base y → gain base v y ≡ pos 30_000_000_000_000_000
+gain_kept base v y h = ⊎_elim
+    (λ (a : (base y <ℤ v y) × (gain base v y ≡ v y -ℤ base y)). absurd (let a0 = a.0 in omega (arith, ints, h, a0)))
+    (λ (b : (v y ≤ℤ base y) × (gain base v y ≡ pos 30_000_000_000_000_000)). b.1)
+    (gain_is base v y)
+
+-- a rose more than y, or as much and y was raised after it
+abbrev pub Precedes : (ℕ → ℤ) → (ℕ → ℕ) → ℕ → ℕ → Type 0
+Precedes g time a y = (g y <ℤ g a) ⊎ ((g y ≤ℤ g a) × (time a < time y))
+
+abbrev one_more : (ℕ → ℕ) → ℕ → ℕ → ℕ
+one_more f y zero = y
+one_more f y (suc k) = f k
+
+module _ (g : ℕ → ℤ) (time : ℕ → ℕ) where
+  precedes_trans : (a b c : ℕ) → Precedes g time a b → Precedes g time b c → Precedes g time a c
   precedes_trans a b c h k =
       ⊎_elim
-      (λ (f : (v b -ℤ base b) <ℤ (v a -ℤ base a)). inl (⊎_elim
-      (λ (g : (v c -ℤ base c) <ℤ (v b -ℤ base b)). omega (arith, ints, f, g))
-      (λ (g : ((v c -ℤ base c) ≤ℤ (v b -ℤ base b)) × (time b < time c)). let g0 = g.0 in omega (arith, ints, f, g0))
+      (λ (f : g b <ℤ g a). inl (⊎_elim
+      (λ (f' : g c <ℤ g b). omega (arith, ints, f, f'))
+      (λ (f' : (g c ≤ℤ g b) × (time b < time c)). let f0 = f'.0 in omega (arith, ints, f, f0))
       k))
-      (λ (f : ((v b -ℤ base b) ≤ℤ (v a -ℤ base a)) × (time a < time b)). let f0 = f.0 in ⊎_elim
-      (λ (g : (v c -ℤ base c) <ℤ (v b -ℤ base b)). inl (omega (arith, ints, f0, g)))
-      (λ (g : ((v c -ℤ base c) ≤ℤ (v b -ℤ base b)) × (time b < time c)). inr (let g0 = g.0 in omega (arith, ints, f0, g0), let f1 = f.1 in let g1 = g.1 in omega (arith, f1, g1)))
+      (λ (f : (g b ≤ℤ g a) × (time a < time b)). let f0 = f.0 in ⊎_elim
+      (λ (f' : g c <ℤ g b). inl (omega (arith, ints, f0, f')))
+      (λ (f' : (g c ≤ℤ g b) × (time b < time c)). inr (let g0 = f'.0 in omega (arith, ints, f0, g0), let f1 = f.1 in let g1 = f'.1 in omega (arith, f1, g1)))
       k)
       h
 
-  precedes_not_same : (a b : ℕ) → a ≡ b → Precedes base v time a b → ⊥
+  precedes_not_same : (a b : ℕ) → a ≡ b → Precedes g time a b → ⊥
   precedes_not_same a b e h =
-      let ev = ap v e in
-      let eb = ap base e in
+      let eg = ap g e in
       let et = ap time e in
       ⊎_elim
-      (λ (f : (v b -ℤ base b) <ℤ (v a -ℤ base a)). omega (arith, ints, f, ev, eb))
-      (λ (f : ((v b -ℤ base b) ≤ℤ (v a -ℤ base a)) × (time a < time b)). let f1 = f.1 in omega (arith, f1, et))
+      (λ (f : g b <ℤ g a). omega (arith, ints, f, eg))
+      (λ (f : (g b ≤ℤ g a) × (time a < time b)). let f1 = f.1 in omega (arith, f1, et))
       h
 
   -- along a walk f of which each variable precedes the one before it
-  precedes_on : (f : ℕ → ℕ) (n : ℕ) → ((k : ℕ) → k < n → Precedes base v time (f (suc k)) (f k)) → (i m : ℕ) → i + suc m ≤ n → Precedes base v time (f (i + suc m)) (f i)
-  precedes_on f n h i zero l = subst (λ j. Precedes base v time (f j) (f i)) (let e : suc i ≡ i + 1 = omega arith in e) (h i (omega (arith, l)))
+  precedes_on : (f : ℕ → ℕ) (n : ℕ) → ((k : ℕ) → k < n → Precedes g time (f (suc k)) (f k)) → (i m : ℕ) → i + suc m ≤ n → Precedes g time (f (i + suc m)) (f i)
+  precedes_on f n h i zero l = subst (λ j. Precedes g time (f j) (f i)) (let e : suc i ≡ i + 1 = omega arith in e) (h i (omega (arith, l)))
   precedes_on f n h i (suc m) l =
-      subst (λ j. Precedes base v time (f j) (f i)) (let e : suc (i + suc m) ≡ i + suc (suc m) = omega arith in e)
+      subst (λ j. Precedes g time (f j) (f i)) (let e : suc (i + suc m) ≡ i + suc (suc m) = omega arith in e)
       (precedes_trans (f (suc (i + suc m))) (f (i + suc m)) (f i) (h (i + suc m) (omega (arith, l))) (precedes_on f n h i m (omega (arith, l))))
 
-  -- n such steps among n variables do not go
-  no_room : (f : ℕ → ℕ) (n : ℕ) → ((k : ℕ) → k < n → Precedes base v time (f (suc k)) (f k)) → ((k : ℕ) → k ≤ n → f k < n) → ⊥
-  no_room f n h low =
-      let w = two_alike n f (λ k l. low k (omega (arith, l))) in
-      let m = w.1 - suc w.0 in
-      let e : w.0 + suc m ≡ w.1 = omega (arith, w.2) in
-      precedes_not_same (f (w.0 + suc m)) (f w.0) (ap f e ∙ sym w.4) (precedes_on f n h w.0 m (omega (arith, w.3, e)))
+  -- a walk of n + 1 variables and one more do not fit among n + 1 variables
+  module _ (f : ℕ → ℕ) (n y : ℕ) (h : (k : ℕ) → k < n → Precedes g time (f (suc k)) (f k)) (low : (k : ℕ) → k ≤ n → f k < suc n) (low_y : y < suc n) (apart : (k : ℕ) → k ≤ n → f k ≡ y → ⊥) where
+    one_low : (k : ℕ) → k < suc (suc n) → one_more f y k < suc n
+    one_low zero l = low_y
+    one_low (suc k) l = low k (omega (arith, l))
+
+    twice : (i j : ℕ) → i < j → j < suc (suc n) → one_more f y i ≡ one_more f y j → ⊥
+    twice i zero less l e = omega (arith, less)
+    twice zero (suc j) less l e = apart j (omega (arith, l)) (sym e)
+    twice (suc i) (suc j) less l e =
+        let m = j - suc i in
+        let s : i + suc m ≡ j = omega (arith, less) in
+        precedes_not_same (f (i + suc m)) (f i) (ap f s ∙ sym e) (precedes_on f n h i m (omega (arith, l, s)))
+
+    no_room : ⊥
+    no_room = let w = two_alike (suc n) (one_more f y) one_low in twice w.0 w.1 w.2 w.3 w.4
 
 -- ---- constraints in a row
 module _ (ds : List Diff) where
@@ -83,155 +118,235 @@ module _ (ds : List Diff) where
   }
 
 -- ---- the cycle as far as it is written, from its end
--- the constraint at a position forces more at y
-abbrev ForcesMore : List Diff → (ℕ → ℤ) → ℕ → ℕ → Type 0
-ForcesMore ds v i y = v y <ℤ (v (at ds i).x -ℤ (at ds i).c)
-
-pub record Writing (ds : List Diff) (causes cycle : List ℕ) (variable start : ℕ) : Type 0 where
+pub record Writing (ds : List Diff) (causes cycle : List ℕ) (last variable start : ℕ) : Type 0 where
   pub size : length cycle ≡ length causes
-  pub starts : start ≤ length causes
-  pub home : LeadsHome ds causes
-  pub reached : variable ≡ back ds causes (length causes - start)
-  pub low : (k : ℕ) → k ≤ length causes - start → back ds causes k < length causes
-  pub steps : (k : ℕ) → k < length causes - start → Precedes home.base home.values home.time (back ds causes (suc k)) (back ds causes k)
-  pub cause : IsCause ds home.values home.time (beside causes variable) variable
-  pub grown : home.base variable ≤ℤ home.values variable
-  pub fresh : (home.base variable <ℤ home.values variable) ⊎ ForcesMore ds home.values (beside causes variable) variable
+  pub starts : start < length causes
+  pub home : LeadsHome ds causes last
+  pub reached : variable ≡ back ds causes (at ds last).x (length causes - 1 - start)
+  pub low : (k : ℕ) → k ≤ length causes - 1 - start → back ds causes (at ds last).x k < length causes
+  pub apart : (k : ℕ) → k < length causes - 1 - start → back ds causes (at ds last).x k ≡ (at ds last).y → ⊥
+  pub steps : (k : ℕ) → k < length causes - 1 - start → Precedes (gain home.base home.values) home.time (back ds causes (at ds last).x (suc k)) (back ds causes (at ds last).x k)
+  -- the variable was raised, or the chain leads from it down to that one
+  pub place : (home.base variable <ℤ home.values variable) ⊎ ((k : ℕ) × Descends ds home.values (beside causes) home.chain k variable (at ds last).y)
   pub within : AllByRecursion (λ i. i < length ds) (drop start cycle)
-  pub joins : Joins ds variable (drop start cycle) (newest ds).x
-  pub sums : (sum_of ds (drop start cycle) <ℤ (home.values variable -ℤ home.values (newest ds).x)) ⊎ ((sum_of ds (drop start cycle) ≤ℤ (home.values variable -ℤ home.values (newest ds).x)) × ForcesMore ds home.values (beside causes variable) variable)
+  pub joins : Joins ds variable (drop start cycle) (at ds last).y
+  pub sums : sum_of ds (drop start cycle) <ℤ (home.values variable -ℤ home.values (at ds last).y)
 
-pub writing_none : (ds : List Diff) (causes cycle : List ℕ) → length cycle ≡ length causes → 0 < length ds → InRange (length causes) ds → LeadsHome ds causes → Writing ds causes cycle (newest ds).x (length causes)
+module _ (ds : List Diff) (causes : List ℕ) (last : ℕ) (home : LeadsHome ds causes last) where
+  -- what a constraint that forces more starts from was raised, or it is the newest one, from whose x the chain leads down
+  came_from : (i y : ℕ) → i < length ds → home.base y ≤ℤ home.values y → (home.values y <ℤ (home.values (at ds i).x -ℤ (at ds i).c)) ⊎ ((home.base y <ℤ home.values y) × (home.values y ≤ℤ (home.values (at ds i).x -ℤ (at ds i).c))) → (at ds i).y ≡ y →
+      (home.base (at ds i).x <ℤ home.values (at ds i).x) ⊎ ((k : ℕ) × Descends ds home.values (beside causes) home.chain k (at ds i).x (at ds last).y)
+  came_from i y l up f ends = ⊎_elim
+      (λ (older : i < length ds - 1).
+      let m = home.solves i older in
+      let e = ap home.base ends in
+      inl (⊎_elim
+      (λ (more : home.values y <ℤ (home.values (at ds i).x -ℤ (at ds i).c)). omega (arith, ints, m, e, up, more))
+      (λ (r : (home.base y <ℤ home.values y) × (home.values y ≤ℤ (home.values (at ds i).x -ℤ (at ds i).c))). let r0 = r.0 in let r1 = r.1 in omega (arith, ints, m, e, r0, r1))
+      f))
+      (λ (newest : length ds - 1 ≤ i).
+      let e : length ds - 1 ≡ i = omega (arith, newest, l) in
+      inr (subst (λ j. (k : ℕ) × Descends ds home.values (beside causes) home.chain k (at ds j).x (at ds last).y) e (home.descends (at ds last).y home.ends)))
+      (cases_lt i (length ds - 1))
+
+pub writing_first : (ds : List Diff) (causes cycle : List ℕ) (last start : ℕ) → length cycle ≡ length causes → InRange (length causes) ds → start + 1 ≡ length cycle → LeadsHome ds causes last → Writing ds causes (set cycle start last) last (at ds last).x start
 unfolding back
-writing_none ds causes cycle size some range h =
-    let none : length causes - length causes ≡ 0 = omega arith in
-    let empty : drop (length causes) cycle ≡ [] = ap (λ k. drop k cycle) (sym size) ∙ drop-length cycle in
-    let z = (newest ds).x in
+writing_first ds causes cycle last start size range at_end h =
+    let none : length causes - 1 - start ≡ 0 = omega (arith, size, at_end) in
+    let written : drop start (set cycle start last) ≡ last ∷ [] = drop-set cycle start last (omega (arith, at_end)) ∙ ap (λ us. last ∷ us) (drop_all (start + 1) cycle (omega (arith, at_end))) in
+    let x = (at ds last).x in
+    let y = (at ds last).y in
+    let up = h.above y in
     record {
-      size = size;
-      starts = omega arith;
+      size = length-set cycle start last ∙ size;
+      starts = omega (arith, size, at_end);
       home = h;
-      reached = ap (back ds causes) (sym none);
-      low = λ k l. subst (λ j. back ds causes j < length causes) (let e : 0 ≡ k = omega (arith, l) in e) ((range (length ds - 1) (diff 0 0 (pos 0)) (omega (arith, some))).0);
-      steps = λ k l. absurd (omega (arith, l));
-      cause = record { within = h.within; ends = h.ends; forces = inl h.forces };
-      grown = let e = h.kept in omega (arith, ints, e);
-      fresh = inr h.forces;
-      within = subst (AllByRecursion (λ i. i < length ds)) (sym empty) tt;
-      joins = subst (λ refs. Joins ds z refs z) (sym empty) refl;
-      sums = inr (subst (λ refs. sum_of ds refs ≤ℤ (h.values z -ℤ h.values z)) (sym empty) (omega (arith, ints)), h.forces);
+      reached = ap (back ds causes x) (sym none);
+      low = λ k l. subst (λ j. back ds causes x j < length causes) (let e : 0 ≡ k = omega (arith, l, none) in e) (range last (diff 0 0 (pos 0)) h.within).0;
+      apart = λ k l. absurd (omega (arith, l, none));
+      steps = λ k l. absurd (omega (arith, l, none));
+      place = came_from ds causes last h last y h.within up (inl h.forces) refl;
+      within = subst (AllByRecursion (λ i. i < length ds)) (sym written) (h.within, tt);
+      joins = subst (λ refs. Joins ds x refs y) (sym written) (refl, refl);
+      sums = subst (λ refs. sum_of ds refs <ℤ (h.values x -ℤ h.values y)) (sym written) (let f = h.forces in omega (arith, ints, f));
     }
 
-module _ (ds : List Diff) (causes cycle : List ℕ) (variable start : ℕ) (w : Writing ds causes cycle variable start) (i : ℕ) (next : i + 1 ≡ start) where
-  abbrev place : ℕ
-  place = beside causes variable
+module _ (ds : List Diff) (causes cycle : List ℕ) (last variable start : ℕ) (w : Writing ds causes cycle last variable start) where
+  pub writing_low : variable < length causes
+  writing_low = subst (λ x. x < length causes) (sym w.reached) (w.low (length causes - 1 - start) (omega arith))
 
-  abbrev written : List ℕ
-  written = set cycle i place
+  -- at the variable that would be raised
+  pub writing_done : variable ≡ (at ds last).y → NegativeCycle ds (drop start cycle)
+  writing_done e = closed (drop start cycle) w.within w.joins w.sums
+    where
+      closed : (refs : List ℕ) → AllByRecursion (λ i. i < length ds) refs → Joins ds variable refs (at ds last).y → sum_of ds refs <ℤ (w.home.values variable -ℤ w.home.values (at ds last).y) → NegativeCycle ds refs
+      closed [] within joins sums = absurd (let v = ap w.home.values e in omega (arith, ints, sums, v))
+      closed (i ∷ refs) within joins sums =
+          let v = ap w.home.values e in
+          subst (λ z. NegativeCycle ds (i ∷ refs)) e
+          (cycle_of ds (at ds last).y i refs within (subst (λ x. Joins ds x (i ∷ refs) (at ds last).y) e joins) (omega (arith, ints, sums, v)))
 
-  is_written : drop i written ≡ place ∷ drop start cycle
-  is_written = drop-set cycle i place (let a = w.size in let b = w.starts in omega (arith, a, b, next)) ∙ ap (λ k. place ∷ drop k cycle) next
+  module _ (range : InRange (length causes) ds) (ne : variable ≡ (at ds last).y → ⊥) where
+    abbrev place : ℕ
+    place = beside causes variable
 
-  within_after : AllByRecursion (λ i. i < length ds) (place ∷ drop start cycle)
-  within_after = (w.cause.within, w.within)
+    -- the variable has a value above 0, so it has a cause
+    positive : pos 0 <ℤ w.home.values variable
+    positive = ⊎_elim
+        (λ (r : w.home.base variable <ℤ w.home.values variable). let z = w.home.from_zero variable in omega (arith, ints, r, z))
+        (λ (d : (k : ℕ) × Descends ds w.home.values (beside causes) w.home.chain k variable (at ds last).y). on_chain d.0 d.1)
+        w.place
+      where
+        on_chain : (k : ℕ) → Descends ds w.home.values (beside causes) w.home.chain k variable (at ds last).y → pos 0 <ℤ w.home.values variable
+        on_chain zero d = absurd (ne d)
+        on_chain (suc k) d = d.1
 
-  joins_after : Joins ds (at ds place).x (place ∷ drop start cycle) (newest ds).x
-  joins_after = (refl, subst (λ u. Joins ds u (drop start cycle) (newest ds).x) (sym w.cause.ends) w.joins)
+    cause : IsCause (length ds) ds w.home.values w.home.time place variable
+    cause = w.home.caused variable positive
 
-  sums_after : sum_of ds (place ∷ drop start cycle) <ℤ (w.home.values (at ds place).x -ℤ w.home.values (newest ds).x)
-  sums_after =
-      let v = w.home.values in
-      ⊎_elim
-      (λ (s : sum_of ds (drop start cycle) <ℤ (v variable -ℤ v (newest ds).x)). ⊎_elim
-      (λ (f : v variable <ℤ (v (at ds place).x -ℤ (at ds place).c)). omega (arith, ints, s, f))
-      (λ (f : (v variable ≤ℤ (v (at ds place).x -ℤ (at ds place).c)) × (w.home.time (at ds place).x < w.home.time variable)). let f0 = f.0 in omega (arith, ints, s, f0))
-      w.cause.forces)
-      (λ (s : (sum_of ds (drop start cycle) ≤ℤ (v variable -ℤ v (newest ds).x)) × ForcesMore ds v place variable). let s0 = s.0 in let s1 = s.1 in omega (arith, ints, s0, s1))
-      w.sums
+    pub place_low : place < length ds
+    place_low = cause.within
 
-  -- at the newest constraint
-  pub written_cycle : place ≡ length ds - 1 → NegativeCycle ds (drop i written)
-  written_cycle e =
-      let home : (at ds place).x ≡ (newest ds).x = ap (λ k. (at ds k).x) e in
-      let v = ap w.home.values home in
-      let s = sums_after in
-      subst (NegativeCycle ds) (sym is_written)
-      (cycle_of ds (newest ds).x place (drop start cycle) within_after
-      (subst (λ x. Joins ds x (place ∷ drop start cycle) (newest ds).x) home joins_after)
-      (omega (arith, ints, s, v)))
+    -- at most as much as the bound
+    at_least : w.home.values variable ≤ℤ (w.home.values (at ds place).x -ℤ (at ds place).c)
+    at_least = ⊎_elim
+        (λ (f : w.home.values variable <ℤ (w.home.values (at ds place).x -ℤ (at ds place).c)). omega (arith, ints, f))
+        (λ (f : (w.home.values variable ≤ℤ (w.home.values (at ds place).x -ℤ (at ds place).c)) × (w.home.time (at ds place).x < w.home.time variable)). f.0)
+        cause.forces
 
-  module _ (older : place ≡ length ds - 1 → ⊥) (range : InRange (length causes) ds) where
-    met : (w.home.base (at ds place).x -ℤ w.home.base variable) ≤ℤ (at ds place).c
-    met =
-        let ne : place ≢ length ds - 1 = older in
-        let l = w.cause.within in
-        let m = w.home.solves place (omega (arith, l, ne)) in
-        let e = ap w.home.base w.cause.ends in
-        omega (arith, ints, m, e)
+    abbrev Placed : ℕ → Type 0
+    Placed x = (w.home.base x <ℤ w.home.values x) ⊎ ((k : ℕ) × Descends ds w.home.values (beside causes) w.home.chain k x (at ds last).y)
 
-    raised : w.home.base (at ds place).x <ℤ w.home.values (at ds place).x
-    raised =
-        let m = met in
-        let g = w.grown in
+    -- the next variable, and that it precedes
+    abbrev Next : Type 0
+    Next = Placed (at ds place).x × Precedes (gain w.home.base w.home.values) w.home.time (at ds place).x variable
+
+    next_raised : w.home.base variable <ℤ w.home.values variable → Next
+    next_raised r =
         let v = w.home.values in
-        ⊎_elim
-        (λ (more : ForcesMore ds v place variable). omega (arith, ints, m, g, more))
-        (λ (f : (v variable ≤ℤ (v (at ds place).x -ℤ (at ds place).c)) × (w.home.time (at ds place).x < w.home.time variable)). let f0 = f.0 in ⊎_elim
-        (λ (r : w.home.base variable <ℤ v variable). omega (arith, ints, m, f0, r))
-        (λ (more : ForcesMore ds v place variable). omega (arith, ints, m, g, more))
-        w.fresh)
-        w.cause.forces
+        let b = w.home.base in
+        let x = (at ds place).x in
+        let up = w.home.above variable in
+        let least = at_least in
+        let to = came_from ds causes last w.home place variable cause.within up (inr (r, least)) cause.ends in
+        let gy = gain_raised b v variable r in
+        let zero = w.home.from_zero variable in
+        let top = w.home.top variable in (
+          to,
+          ⊎_elim
+              (λ (older : place < length ds - 1).
+              let m = w.home.solves place older in
+              let e = ap b cause.ends in
+              let rx : b x <ℤ v x = omega (arith, ints, m, e, r, least) in
+              let gx = gain_raised b v x rx in
+              ⊎_elim
+              (λ (f : v variable <ℤ (v x -ℤ (at ds place).c)). inl (omega (arith, ints, m, e, f, gx, gy)))
+              (λ (f : (v variable ≤ℤ (v x -ℤ (at ds place).c)) × (w.home.time x < w.home.time variable)). inr (let f0 = f.0 in omega (arith, ints, m, e, f0, gx, gy), f.1))
+              cause.forces)
+              (λ (newest : length ds - 1 ≤ place).
+              let w1 = cause.within in
+              let e : length ds - 1 ≡ place = omega (arith, newest, w1) in
+              let kept : v x ≡ b x = subst (λ j. v (at ds j).x ≡ b (at ds j).x) e (w.home.kept _ w.home.own) in
+              let gx = gain_kept b v x kept in
+              inl (omega (arith, ints, gx, gy, zero, top)))
+              (cases_lt place (length ds - 1)),
+        )
 
-    precedes : Precedes w.home.base w.home.values w.home.time (at ds place).x variable
-    precedes =
-        let m = met in
+    next_on_chain : (k : ℕ) → Descends ds w.home.values (beside causes) w.home.chain k variable (at ds last).y → Next
+    next_on_chain zero d = absurd (ne d)
+    next_on_chain (suc k) d =
         let v = w.home.values in
-        ⊎_elim
-        (λ (more : ForcesMore ds v place variable). inl (omega (arith, ints, m, more)))
-        (λ (f : (v variable ≤ℤ (v (at ds place).x -ℤ (at ds place).c)) × (w.home.time (at ds place).x < w.home.time variable)). inr (let f0 = f.0 in omega (arith, ints, m, f0), f.1))
-        w.cause.forces
+        let b = w.home.base in
+        let x = (at ds place).x in
+        let m = w.home.solves place d.2 in
+        let e = ap b cause.ends in
+        let kept_y = w.home.kept variable d.0 in
+        let kept_x = kept_next k x d.3 in
+        let gy = gain_kept b v variable kept_y in
+        let gx = gain_kept b v x kept_x in (
+          inr (k, d.3),
+          ⊎_elim
+              (λ (f : v variable <ℤ (v x -ℤ (at ds place).c)). absurd (omega (arith, ints, m, e, f, kept_x, kept_y)))
+              (λ (f : (v variable ≤ℤ (v x -ℤ (at ds place).c)) × (w.home.time x < w.home.time variable)). inr (omega (arith, ints, gx, gy), f.1))
+              cause.forces,
+        )
+      where
+        kept_next : (k x : ℕ) → Descends ds w.home.values (beside causes) w.home.chain k x (at ds last).y → w.home.values x ≡ w.home.base x
+        kept_next zero x d = w.home.kept x (subst (λ z. marked w.home.chain z ≡ true) (sym d) w.home.ends)
+        kept_next (suc k) x d = w.home.kept x d.0
 
-    next_back : (at ds place).x ≡ back ds causes (suc (length causes - start))
+    next : Next
+    next = ⊎_elim
+        (λ (r : w.home.base variable <ℤ w.home.values variable). next_raised r)
+        (λ (d : (k : ℕ) × Descends ds w.home.values (beside causes) w.home.chain k variable (at ds last).y). next_on_chain d.0 d.1)
+        w.place
+
+    apart_now : (k : ℕ) → k ≤ length causes - 1 - start → back ds causes (at ds last).x k ≡ (at ds last).y → ⊥
+    apart_now k l e = ⊎_elim
+        (λ (less : k < length causes - 1 - start). w.apart k less e)
+        (λ (ge : length causes - 1 - start ≤ k).
+        let s : k ≡ length causes - 1 - start = omega (arith, l, ge) in
+        ne (w.reached ∙ ap (back ds causes (at ds last).x) (sym s) ∙ e))
+        (cases_lt k (length causes - 1 - start))
+
+    -- there is a place left
+    pub place_left : 0 < start
+    place_left = ⊎_elim
+        (λ (none : start < 1).
+        let s = w.starts in
+        let end : length causes - 1 - start ≡ length causes - 1 = omega (arith, none) in
+        let size : suc (length causes - 1) ≡ length causes = omega (arith, s) in
+        absurd (no_room (gain w.home.base w.home.values) w.home.time (back ds causes (at ds last).x) (length causes - 1) (at ds last).y
+        (λ k l. w.steps k (omega (arith, l, end)))
+        (λ k l. let a = w.low k (omega (arith, l, end)) in omega (arith, a, size))
+        (let r = (range last (diff 0 0 (pos 0)) w.home.within).1 in omega (arith, r, size))
+        (λ k l e. apart_now k (omega (arith, l, end)) e)))
+        (λ (more : 1 ≤ start). omega (arith, more))
+        (cases_lt start 1)
+
+    next_back : (at ds place).x ≡ back ds causes (at ds last).x (suc (length causes - 1 - start))
     unfolding back
     next_back = ap (λ y. (at ds (beside causes y)).x) w.reached
 
-    pub writing_more : Writing ds causes written (at ds place).x i
-    unfolding back
-    writing_more =
-        let s = w.starts in
-        let more : length causes - i ≡ suc (length causes - start) = omega (arith, s, next) in
-        let r = raised in
-        record {
-          size = length-set cycle i place ∙ w.size;
-          starts = omega (arith, s, next);
-          home = w.home;
-          reached = next_back ∙ ap (back ds causes) (sym more);
-          low = λ k l. ⊎_elim
-              (λ (less : k < suc (length causes - start)). w.low k (omega (arith, less)))
-              (λ (ge : suc (length causes - start) ≤ k).
-              subst (λ j. back ds causes j < length causes) (let e : suc (length causes - start) ≡ k = omega (arith, l, ge, more) in e)
-              (subst (λ x. x < length causes) next_back ((range place (diff 0 0 (pos 0)) w.cause.within).0)))
-              (cases_lt k (suc (length causes - start)));
-          steps = λ k l. ⊎_elim
-              (λ (less : k < length causes - start). w.steps k less)
-              (λ (ge : length causes - start ≤ k).
-              subst (λ j. Precedes w.home.base w.home.values w.home.time (back ds causes (suc j)) (back ds causes j)) (let e : length causes - start ≡ k = omega (arith, l, ge, more) in e)
-              (subst (λ y. Precedes w.home.base w.home.values w.home.time (back ds causes (suc (length causes - start))) y) w.reached
-              (subst (λ a. Precedes w.home.base w.home.values w.home.time a variable) next_back precedes)))
-              (cases_lt k (length causes - start));
-          cause = w.home.caused (at ds place).x r;
-          grown = omega (arith, ints, r);
-          fresh = inl r;
-          within = subst (AllByRecursion (λ i. i < length ds)) (sym is_written) within_after;
-          joins = subst (λ refs. Joins ds (at ds place).x refs (newest ds).x) (sym is_written) joins_after;
-          sums = inl (subst (λ refs. sum_of ds refs <ℤ (w.home.values (at ds place).x -ℤ w.home.values (newest ds).x)) (sym is_written) sums_after);
-        }
+    module _ (i : ℕ) (before : i + 1 ≡ start) where
+      abbrev written : List ℕ
+      written = set cycle i place
 
-pub writing_low : (ds : List Diff) (causes cycle : List ℕ) (variable start : ℕ) → Writing ds causes cycle variable start → variable < length causes
-writing_low ds causes cycle variable start w = subst (λ x. x < length causes) (sym w.reached) (w.low (length causes - start) (omega arith))
+      is_written : drop i written ≡ place ∷ drop start cycle
+      is_written = drop-set cycle i place (let a = w.size in let b = w.starts in omega (arith, a, b, before)) ∙ ap (λ k. place ∷ drop k cycle) before
 
-pub writing_ends : (ds : List Diff) (causes cycle : List ℕ) (variable start : ℕ) → Writing ds causes cycle variable start → start ≡ 0 → ⊥
-writing_ends ds causes cycle variable start w e =
-    no_room w.home.base w.home.values w.home.time (back ds causes) (length causes)
-    (λ k l. w.steps k (omega (arith, l, e)))
-    (λ k l. w.low k (omega (arith, l, e)))
+      one_step : length causes - 1 - i ≡ suc (length causes - 1 - start)
+      one_step = let s = w.starts in omega (arith, s, before)
+
+      pub writing_more : Writing ds causes written last (at ds place).x i
+      unfolding back
+      writing_more =
+          let s = w.starts in
+          let more = one_step in
+          let m = length causes - 1 - start in
+          let n = next in
+          let x = (at ds last).x in
+          record {
+            size = length-set cycle i place ∙ w.size;
+            starts = omega (arith, s, before);
+            home = w.home;
+            reached = next_back ∙ ap (back ds causes x) (sym more);
+            low = λ k l. ⊎_elim
+                (λ (less : k < suc m). w.low k (omega (arith, less)))
+                (λ (ge : suc m ≤ k).
+                subst (λ j. back ds causes x j < length causes) (let e : suc m ≡ k = omega (arith, l, ge, more) in e)
+                (subst (λ z. z < length causes) next_back ((range place (diff 0 0 (pos 0)) cause.within).0)))
+                (cases_lt k (suc m));
+            apart = λ k l. apart_now k (omega (arith, l, more));
+            steps = λ k l. ⊎_elim
+                (λ (less : k < m). w.steps k less)
+                (λ (ge : m ≤ k).
+                subst (λ j. Precedes (gain w.home.base w.home.values) w.home.time (back ds causes x (suc j)) (back ds causes x j)) (let e : m ≡ k = omega (arith, l, ge, more) in e)
+                (subst (λ y. Precedes (gain w.home.base w.home.values) w.home.time (back ds causes x (suc m)) y) w.reached
+                (subst (λ a. Precedes (gain w.home.base w.home.values) w.home.time a variable) next_back n.1)))
+                (cases_lt k m);
+            place = n.0;
+            within = subst (AllByRecursion (λ i. i < length ds)) (sym is_written) (cause.within, w.within);
+            joins = subst (λ refs. Joins ds (at ds place).x refs (at ds last).y) (sym is_written) (refl, subst (λ u. Joins ds u (drop start cycle) (at ds last).y) (sym cause.ends) w.joins);
+            sums = subst (λ refs. sum_of ds refs <ℤ (w.home.values (at ds place).x -ℤ w.home.values (at ds last).y)) (sym is_written) (let a = at_least in let b = w.sums in omega (arith, ints, a, b));
+          }

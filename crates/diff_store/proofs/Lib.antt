@@ -1,10 +1,11 @@
 pub mod Bounded
 pub mod Efforts
 pub mod Home
+pub mod Marks
 pub mod Queues
 pub mod Raises
-pub mod RowLemmas
 pub mod Settling
 pub mod Stores
 pub mod Testing
 pub mod Ticks
+pub mod TrailLemmas

@@ -1,5 +1,5 @@
 -- What a raise keeps: values stay above the least ones of the older constraints, below what the newest one forces, and caused
-use Rattle.std.proofs.Common.{◌≡◌, ℕ, ◌+◌, ◌-◌, ◌<◌, ◌≤◌, Bool, true, false, cond, eqb, List, length, set, All, refl, sym, ◌∙◌, ap, subst, arith, ◌⊎◌, inl, inr, ⊎_elim, ℤ, pos, ◌+ℤ◌, ◌-ℤ◌, ◌≤ℤ◌, ◌<ℤ◌}
+use Rattle.std.proofs.Common.{◌≡◌, ℕ, zero, suc, ◌+◌, ◌-◌, ◌<◌, ◌≤◌, Bool, true, false, cond, eqb, List, length, set, All, refl, sym, ◌∙◌, ap, subst, arith, ◌⊎◌, inl, inr, ⊎_elim, ℤ, pos, ◌+ℤ◌, ◌-ℤ◌, ◌≤ℤ◌, ◌<ℤ◌}
 use Rattle.std.proofs.lemmas.Int.{ints, by_lt_z}
 use Rattle.std.proofs.lemmas.Bool.{cases_lt, cases_eq, eq-eqb, ne_eqb, cond-true, cond-false}
 use Rattle.std.proofs.lemmas.List.{length-set, get_or-set_same, get_or-set_other}
@@ -7,7 +7,7 @@ use Rattle.tick_num.specs.declared.differences.Diff.{Diff}
 use Rattle.tick_num.specs.Differences.{diff, Meets, listed}
 use Rattle.diff_store.specs.Bounds.{Small}
 use Rattle.diff_store.specs.Leasts.{at, MeetsFirst, FromZero}
-use Rattle.diff_store.specs.Causes.{beside, newest, IsCause, LeadsHome}
+use Rattle.diff_store.specs.Causes.{beside, marked, newest, IsCause, HeldByFirst, Descends, LeadsHome}
 use Rattle.diff_store.specs.Raising.{waits_in, Raising, Awaits}
 use Rattle.diff_store.proofs.Ticks.{Modest}
 
@@ -46,7 +46,7 @@ places y w i vs cs ws l ec ew = record {
   waits = λ x ne. get_or-set_other ws y x true false ne;
 }
 
-module _ (ds : List Diff) (i : ℕ) (vs : List ℤ) (cs : List ℕ) (ws : List Bool) (within : i < length ds) (state : Raising ds vs cs ws (at ds i).x (i + 1)) where
+module _ (ds : List Diff) (i : ℕ) (vs : List ℤ) (cs : List ℕ) (chain ws : List Bool) (within : i < length ds) (state : Raising ds vs cs chain ws (at ds i).x (i + 1)) where
   abbrev forced : ℤ
   forced = listed vs (at ds i).x -ℤ (at ds i).c
 
@@ -56,7 +56,7 @@ module _ (ds : List Diff) (i : ℕ) (vs : List ℤ) (cs : List ℕ) (ws : List B
       (λ (older : i < length ds - 1). let u = state.under w m z n (at ds i).x in let meets = m i older in omega (arith, ints, u, meets))
       (λ (last : length ds - 1 ≤ i).
       let e : length ds - 1 ≡ i = omega (arith, last, within) in
-      subst (λ j. (listed vs (at ds j).x -ℤ (at ds j).c) ≤ℤ w (at ds j).y) e (let k = state.kept in omega (arith, ints, k, n)))
+      subst (λ j. (listed vs (at ds j).x -ℤ (at ds j).c) ≤ℤ w (at ds j).y) e (let k = state.kept (newest ds).x state.own in omega (arith, ints, k, n)))
       (cases_lt i (length ds - 1))
 
   -- what is not above solutions is not above the least values of the older constraints, all raised alike
@@ -99,7 +99,7 @@ module _ (ds : List Diff) (i : ℕ) (vs : List ℤ) (cs : List ℕ) (ws : List B
     }
 
   -- a constraint that is met
-  pub met_state : Meets (listed vs) (at ds i) → Raising ds vs cs ws (at ds i).x i
+  pub met_state : Meets (listed vs) (at ds i) → Raising ds vs cs chain ws (at ds i).x i
   met_state m = record {
     some = state.some;
     causes_size = state.causes_size;
@@ -109,7 +109,10 @@ module _ (ds : List Diff) (i : ℕ) (vs : List ℤ) (cs : List ℕ) (ws : List B
     low = state.low;
     above = state.above;
     under = state.under;
+    own = state.own;
     kept = state.kept;
+    descends = state.descends;
+    held = state.held;
     awaits = λ j l. ⊎_elim
         (λ (e : Meets (listed vs) (at ds j)). inl e)
         (λ (o : (waits_in ws (at ds j).x ≡ true) ⊎ (((at ds j).x ≡ (at ds i).x) × (j < i + 1))). ⊎_elim
@@ -120,39 +123,30 @@ module _ (ds : List Diff) (i : ℕ) (vs : List ℤ) (cs : List ℕ) (ws : List B
         (cases_lt j i))
         o)
         (state.awaits j l);
-    time = state.time;
-    now = state.now;
-    earlier = state.earlier;
-    caused = state.caused;
   }
 
   module _ (less : listed vs (at ds i).y <ℤ forced) where
-    -- the x of the newest constraint would have to rise
-    pub stopped_home : (at ds i).y ≡ (newest ds).x → (at ds i).y < length cs → LeadsHome ds (set cs (at ds i).y i)
-    stopped_home e low =
-        let cause : beside (set cs (at ds i).y i) (newest ds).x ≡ i = ap (beside (set cs (at ds i).y i)) (sym e) ∙ get_or-set_same cs (at ds i).y i 0 low in
-        let back = sym cause in
-        record {
-          base = state.base;
-          solves = state.least.solves;
-          values = listed vs;
-          time = state.time;
-          kept = state.kept;
-          caused = λ y up. ⊎_elim
-              (λ (s : y ≡ (at ds i).y).
-              let z = s ∙ e in
-              let k = state.kept in
-              let a = ap (listed vs) z in
-              let b = ap state.base z in
-              absurd (omega (arith, ints, up, k, a, b)))
-              (λ (ne : y ≡ (at ds i).y → ⊥). subst (λ k. IsCause ds (listed vs) state.time k y) (sym (get_or-set_other cs (at ds i).y y i 0 ne)) (state.caused y up))
-              (cases_eq y (at ds i).y);
-          within = subst (λ k. k < length ds) back within;
-          ends = subst (λ k. (at ds k).y ≡ (newest ds).x) back e;
-          forces = subst (λ k. listed vs (newest ds).x <ℤ (listed vs (at ds k).x -ℤ (at ds k).c)) back (let a = ap (listed vs) e in omega (arith, ints, less, a));
-        }
+    -- a variable of the chain would have to rise
+    pub stopped_home : All Small ds → marked chain (at ds i).y ≡ true → LeadsHome ds cs i
+    stopped_home small on = record {
+      base = state.base;
+      solves = state.least.solves;
+      from_zero = state.least.from_zero;
+      values = listed vs;
+      above = state.above;
+      top = value_top small;
+      time = state.held.time;
+      caused = state.held.caused;
+      chain = chain;
+      own = state.own;
+      kept = state.kept;
+      descends = state.descends;
+      within = within;
+      ends = on;
+      forces = less;
+    }
 
-    module _ (ne : (at ds i).y ≡ (newest ds).x → ⊥) (vs' : List ℤ) (cs' : List ℕ) (ws' : List Bool) (p : Places (at ds i).y forced i vs cs ws vs' cs' ws') where
+    module _ (ne : marked chain (at ds i).y ≡ true → ⊥) (vs' : List ℤ) (cs' : List ℕ) (ws' : List Bool) (p : Places (at ds i).y forced i vs cs ws vs' cs' ws') where
       -- no value falls
       rises : (x : ℕ) → listed vs x ≤ℤ listed vs' x
       rises x = ⊎_elim
@@ -161,10 +155,10 @@ module _ (ds : List Diff) (i : ℕ) (vs : List ℤ) (cs : List ℕ) (ws : List B
           (cases_eq x (at ds i).y)
 
       abbrev time' : ℕ → ℕ
-      time' = put state.time (at ds i).y state.now
+      time' = put state.held.time (at ds i).y state.held.now
 
       -- the cause of y
-      caused_here : IsCause ds (listed vs') time' i (at ds i).y
+      caused_here : IsCause (length ds) ds (listed vs') time' i (at ds i).y
       caused_here = record {
         within = within;
         ends = refl;
@@ -172,33 +166,33 @@ module _ (ds : List Diff) (i : ℕ) (vs : List ℤ) (cs : List ℕ) (ws : List B
             (λ (e : (at ds i).x ≡ (at ds i).y). inl (let a = here (listed vs') _ _ _ p.value e in let b = ap (listed vs) e in let v = p.value in omega (arith, ints, a, b, v, less)))
             (λ (o : (at ds i).x ≡ (at ds i).y → ⊥). inr (
               let a = p.values _ o in let v = p.value in omega (arith, ints, a, v),
-              let a = put_else state.time (at ds i).y state.now _ o in let b = put_here state.time (at ds i).y state.now in let l = state.earlier (at ds i).x in omega (arith, a, b, l),
+              let a = put_else state.held.time (at ds i).y state.held.now _ o in let b = put_here state.held.time (at ds i).y state.held.now in let l = state.held.earlier (at ds i).x in omega (arith, a, b, l),
             ))
             (cases_eq (at ds i).x (at ds i).y);
       }
 
       -- the cause of another
-      caused_else : (z j : ℕ) → (z ≡ (at ds i).y → ⊥) → IsCause ds (listed vs) state.time j z → IsCause ds (listed vs') time' j z
+      caused_else : (z j : ℕ) → (z ≡ (at ds i).y → ⊥) → IsCause (length ds) ds (listed vs) state.held.time j z → IsCause (length ds) ds (listed vs') time' j z
       caused_else z j o h = record {
         within = h.within;
         ends = h.ends;
         forces =
             let same = p.values z o in
-            let s = put_else state.time (at ds i).y state.now z o in
+            let s = put_else state.held.time (at ds i).y state.held.now z o in
             ⊎_elim
             (λ (e : (at ds j).x ≡ (at ds i).y). inl (
             let a = here (listed vs') _ _ _ p.value e in
             let b = ap (listed vs) e in
             ⊎_elim
             (λ (f : listed vs z <ℤ (listed vs (at ds j).x -ℤ (at ds j).c)). omega (arith, ints, a, b, f, same, less))
-            (λ (f : (listed vs z ≤ℤ (listed vs (at ds j).x -ℤ (at ds j).c)) × (state.time (at ds j).x < state.time z)). let f0 = f.0 in omega (arith, ints, a, b, f0, same, less))
+            (λ (f : (listed vs z ≤ℤ (listed vs (at ds j).x -ℤ (at ds j).c)) × (state.held.time (at ds j).x < state.held.time z)). let f0 = f.0 in omega (arith, ints, a, b, f0, same, less))
             h.forces))
             (λ (n : (at ds j).x ≡ (at ds i).y → ⊥).
             let a = p.values (at ds j).x n in
-            let t = put_else state.time (at ds i).y state.now (at ds j).x n in
+            let t = put_else state.held.time (at ds i).y state.held.now (at ds j).x n in
             ⊎_elim
             (λ (f : listed vs z <ℤ (listed vs (at ds j).x -ℤ (at ds j).c)). inl (omega (arith, ints, a, f, same)))
-            (λ (f : (listed vs z ≤ℤ (listed vs (at ds j).x -ℤ (at ds j).c)) × (state.time (at ds j).x < state.time z)). inr (let f0 = f.0 in omega (arith, ints, a, f0, same), let f1 = f.1 in omega (arith, t, f1, s)))
+            (λ (f : (listed vs z ≤ℤ (listed vs (at ds j).x -ℤ (at ds j).c)) × (state.held.time (at ds j).x < state.held.time z)). inr (let f0 = f.0 in omega (arith, ints, a, f0, same), let f1 = f.1 in omega (arith, t, f1, s)))
             h.forces)
             (cases_eq (at ds j).x (at ds i).y);
       }
@@ -225,7 +219,38 @@ module _ (ds : List Diff) (i : ℕ) (vs : List ℤ) (cs : List ℕ) (ws : List B
           (state.awaits j l))
           (cases_eq (at ds j).x (at ds i).y)
 
-      raised_state : length cs' ≡ length vs' → length ws' ≡ length vs' → Raising ds vs' cs' ws' (at ds i).x i
+      raised_held : HeldByFirst (length ds) ds (listed vs') (beside cs')
+      raised_held = record {
+        time = time';
+        now = state.held.now + 1;
+        earlier = λ x. ⊎_elim
+            (λ (e : x ≡ (at ds i).y). let a = here time' x _ _ (put_here state.held.time (at ds i).y state.held.now) e in omega (arith, a))
+            (λ (o : x ≡ (at ds i).y → ⊥). let a = put_else state.held.time (at ds i).y state.held.now x o in let b = state.held.earlier x in omega (arith, a, b))
+            (cases_eq x (at ds i).y);
+        caused = λ x up. ⊎_elim
+            (λ (e : x ≡ (at ds i).y). subst (λ k. IsCause (length ds) ds (listed vs') time' k x) (sym (here (beside cs') x _ _ p.cause e)) (subst (IsCause (length ds) ds (listed vs') time' i) (sym e) caused_here))
+            (λ (o : x ≡ (at ds i).y → ⊥).
+            let a = p.values x o in
+            subst (λ k. IsCause (length ds) ds (listed vs') time' k x) (sym (p.causes x o)) (caused_else x (beside cs x) o (state.held.caused x (omega (arith, ints, a, up)))))
+            (cases_eq x (at ds i).y);
+      }
+
+      -- the chain stands
+      descends_still : (k x z : ℕ) → Descends ds (listed vs) (beside cs) chain k x z → Descends ds (listed vs') (beside cs') chain k x z
+      descends_still zero x z e = e
+      descends_still (suc k) x z d =
+          let o : x ≡ (at ds i).y → ⊥ = λ e. ne (subst (λ u. marked chain u ≡ true) e d.0) in
+          let a = p.values x o in
+          let c = p.causes x o in
+          let up = d.1 in
+          let older = d.2 in (
+            d.0,
+            omega (arith, ints, a, up),
+            omega (arith, c, older),
+            subst (λ j. Descends ds (listed vs') (beside cs') chain k (at ds j).x z) (sym c) (descends_still k (at ds (beside cs x)).x z d.3),
+          )
+
+      raised_state : length cs' ≡ length vs' → length ws' ≡ length vs' → Raising ds vs' cs' chain ws' (at ds i).x i
       raised_state ec ew = record {
         some = state.some;
         causes_size = ec;
@@ -242,24 +267,15 @@ module _ (ds : List Diff) (i : ℕ) (vs : List ℤ) (cs : List ℕ) (ws : List B
             omega (arith, ints, a, b, u))
             (λ (o : x ≡ (at ds i).y → ⊥). let a = p.values x o in let u = state.under w m z n x in omega (arith, ints, a, u))
             (cases_eq x (at ds i).y);
-        kept = p.values (newest ds).x (λ e. ne (sym e)) ∙ state.kept;
         awaits = awaits_after;
-        time = time';
-        now = state.now + 1;
-        earlier = λ x. ⊎_elim
-            (λ (e : x ≡ (at ds i).y). let a = here time' x _ _ (put_here state.time (at ds i).y state.now) e in omega (arith, a))
-            (λ (o : x ≡ (at ds i).y → ⊥). let a = put_else state.time (at ds i).y state.now x o in let b = state.earlier x in omega (arith, a, b))
-            (cases_eq x (at ds i).y);
-        caused = λ x up. ⊎_elim
-            (λ (e : x ≡ (at ds i).y). subst (λ k. IsCause ds (listed vs') time' k x) (sym (here (beside cs') x _ _ p.cause e)) (subst (IsCause ds (listed vs') time' i) (sym e) caused_here))
-            (λ (o : x ≡ (at ds i).y → ⊥).
-            let a = p.values x o in
-            subst (λ k. IsCause ds (listed vs') time' k x) (sym (p.causes x o)) (caused_else x (beside cs x) o (state.caused x (omega (arith, ints, a, up)))))
-            (cases_eq x (at ds i).y);
+        own = state.own;
+        kept = λ x m. p.values x (λ e. ne (subst (λ z. marked chain z ≡ true) e m)) ∙ state.kept x m;
+        descends = λ x m. let d = state.descends x m in (d.0, descends_still d.0 (newest ds).x x d.1);
+        held = raised_held;
       }
 
     -- y rises to what is forced, and waits
-    pub rises_state : ((at ds i).y ≡ (newest ds).x → ⊥) → (at ds i).y < length vs → Raising ds (set vs (at ds i).y forced) (set cs (at ds i).y i) (set ws (at ds i).y true) (at ds i).x i
+    pub rises_state : (marked chain (at ds i).y ≡ true → ⊥) → (at ds i).y < length vs → Raising ds (set vs (at ds i).y forced) (set cs (at ds i).y i) chain (set ws (at ds i).y true) (at ds i).x i
     rises_state ne low = raised_state ne _ _ _
         (places (at ds i).y forced i vs cs ws low state.causes_size state.waits_size)
         (length-set cs (at ds i).y i ∙ state.causes_size ∙ sym (length-set vs (at ds i).y forced))

@@ -1,21 +1,21 @@
 -- What a store keeps: shorter lists keep their least values, and the whole list has its own or a cycle
-use Rattle.std.proofs.Common.{◌≡◌, ℕ, zero, suc, None, false, replicate, w64, to_z, of_z, ◌+◌, ◌-◌, ◌<◌, ◌≤◌, List, [], ◌∷◌, ◌++◌, length, take, All, refl, sym, ◌∙◌, ap, subst, arith, ◌⊎◌, inl, inr, ⊎_elim, ℤ, pos}
+use Rattle.std.proofs.Common.{◌≡◌, ℕ, zero, suc, None, false, replicate, w64, to_z, of_z, ◌-◌, ◌<◌, ◌≤◌, List, [], ◌∷◌, ◌++◌, length, take, drop, All, refl, sym, ◌∙◌, ap, subst, arith, ◌⊎◌, inl, inr, ⊎_elim, ℤ, pos, ◌-ℤ◌, ◌≤ℤ◌, ◌<ℤ◌}
 use Rattle.std.proofs.lemmas.Int.{ints}
 use Rattle.std.proofs.lemmas.Bool.{cases_lt}
-use Rattle.std.proofs.lemmas.List.{get_or_append_left, get_or-take, drop_at, length-append, length-replicate, get_or_default, length_push, take-take, take_all}
+use Rattle.std.proofs.lemmas.List.{get_or_append_left, get_or-take, get_or_past, drop_all, length-replicate, get_or_default, length_push}
 use Rattle.std.proofs.lemmas.List.Elements.{All-push}
 use Rattle.tick_num.specs.declared.differences.Diff.{Diff}
 use Rattle.tick_num.specs.Differences.{diff, Meets, MeetsAll, LeastValues, NegativeCycle, InRange, listed}
 use Rattle.tick_num.proofs.Cycles.{cycles_exclude}
 use Rattle.tick_num.proofs.Layers.{least_unique}
+use Rattle.diff_store.specs.declared.trail.Was.{Was}
 use Rattle.diff_store.specs.Bounds.{Small}
 use Rattle.diff_store.specs.Leasts.{at, MeetsFirst, LeastOfFirst}
-use Rattle.diff_store.specs.Causes.{beside}
+use Rattle.diff_store.specs.Causes.{beside, IsCause, HeldByFirst}
 use Rattle.diff_store.specs.Chains.{IsLatest, Chained, linked}
 use Rattle.diff_store.specs.Raising.{NoneWaits}
-use Rattle.diff_store.specs.Rows.{Rows, row, Solved}
-use Rattle.diff_store.specs.Standing.{Answered}
-use Rattle.diff_store.proofs.RowLemmas.{same_row, last_row}
+use Rattle.diff_store.specs.Trails.{Trailing, since, value_before, cause_before, SamePast}
+use Rattle.diff_store.specs.Standing.{Solved, Answered}
 use Rattle.diff_store.proofs.Bounded.{low_values}
 use Rattle.diff_store.proofs.Ticks.{tick_is}
 
@@ -41,108 +41,137 @@ same_first k ds ds' v agree h = record {
   least = λ w m. h.least w (λ i l. subst (Meets w) (sym (agree i l)) (m i l));
 }
 
-pub first_longer : (k : ℕ) (ds ds' : List Diff) (d : Diff) (v : ℕ → ℤ) → ds' ≡ ds ++ d ∷ [] → k ≤ length ds → LeastOfFirst k ds v → LeastOfFirst k ds' v
-first_longer k ds ds' d v e within h = same_first k ds ds' v (λ i l. sym (ap (λ es. at es i) e ∙ get_or_append_left ds (d ∷ []) (diff 0 0 (pos 0)) i (omega (arith, l, within)))) h
+-- ---- values and causes that are the same
+values_same : (k : ℕ) (ds : List Diff) (v v' : ℕ → ℤ) → ((y : ℕ) → v' y ≡ v y) → LeastOfFirst k ds v → LeastOfFirst k ds v'
+values_same k ds v v' same h = record {
+  solves = λ i l. let m = h.solves i l in let a = same (at ds i).x in let b = same (at ds i).y in omega (arith, ints, m, a, b);
+  from_zero = λ x. let z = h.from_zero x in let a = same x in omega (arith, ints, z, a);
+  least = λ w m z x. let l = h.least w m z x in let a = same x in omega (arith, ints, l, a);
+}
 
-pub first_shorter : (k m : ℕ) (ds ds' : List Diff) (v : ℕ → ℤ) → ds' ≡ take m ds → k ≤ m → LeastOfFirst k ds v → LeastOfFirst k ds' v
-first_shorter k m ds ds' v e within h = same_first k ds ds' v (λ i l. sym (ap (λ es. at es i) e ∙ get_or-take m ds i (diff 0 0 (pos 0)) (omega (arith, l, within)))) h
+held_same : (k : ℕ) (ds : List Diff) (v v' : ℕ → ℤ) (c c' : ℕ → ℕ) → ((y : ℕ) → v' y ≡ v y) → ((y : ℕ) → c' y ≡ c y) → HeldByFirst k ds v c → HeldByFirst k ds v' c'
+held_same k ds v v' c c' same same_c h = record {
+  time = h.time;
+  now = h.now;
+  earlier = h.earlier;
+  caused = λ y up.
+      let a = same y in
+      let i = h.caused y (omega (arith, ints, up, a)) in
+      let b = same (at ds (c y)).x in
+      subst (λ j. IsCause k ds v' h.time j y) (sym (same_c y)) (record {
+        within = i.within;
+        ends = i.ends;
+        forces = ⊎_elim
+            (λ (f : v y <ℤ (v (at ds (c y)).x -ℤ (at ds (c y)).c)). inl (omega (arith, ints, f, a, b)))
+            (λ (f : (v y ≤ℤ (v (at ds (c y)).x -ℤ (at ds (c y)).c)) × (h.time (at ds (c y)).x < h.time y)). inr (let f0 = f.0 in omega (arith, ints, f0, a, b), f.1))
+            i.forces;
+      });
+}
+
+-- lists that agree as far as k
+held_first : (k : ℕ) (ds ds' : List Diff) (v : ℕ → ℤ) (c : ℕ → ℕ) → ((i : ℕ) → i < k → at ds i ≡ at ds' i) → HeldByFirst k ds v c → HeldByFirst k ds' v c
+held_first k ds ds' v c agree h = record {
+  time = h.time;
+  now = h.now;
+  earlier = h.earlier;
+  caused = λ y up.
+      let i = h.caused y up in
+      let e = agree (c y) i.within in
+      record {
+        within = i.within;
+        ends = subst (λ (d : Diff). d.y ≡ y) e i.ends;
+        forces = subst (λ (d : Diff). (v y <ℤ (v d.x -ℤ d.c)) ⊎ ((v y ≤ℤ (v d.x -ℤ d.c)) × (h.time d.x < h.time y))) e i.forces;
+      };
+}
+
+agree_longer : (ds ds' : List Diff) (d : Diff) → ds' ≡ ds ++ d ∷ [] → (i : ℕ) → i < length ds → at ds i ≡ at ds' i
+agree_longer ds ds' d e i l = sym (ap (λ es. at es i) e ∙ get_or_append_left ds (d ∷ []) (diff 0 0 (pos 0)) i l)
+
+agree_shorter : (m : ℕ) (ds ds' : List Diff) → ds' ≡ take m ds → (i : ℕ) → i < m → at ds i ≡ at ds' i
+agree_shorter m ds ds' e i l = sym (ap (λ es. at es i) e ∙ get_or-take m ds i (diff 0 0 (pos 0)) l)
+
+solved_same : (k m : ℕ) (ds ds' : List Diff) (t t' : Trailing) (v v' : ℕ → ℤ) (c c' : ℕ → ℕ) → ((i : ℕ) → i < k → at ds i ≡ at ds' i) → k ≤ m → SamePast m t t' v v' c c' → Solved ds t v c k → Solved ds' t' v' c' k
+solved_same k m ds ds' t t' v v' c c' agree le past s = record {
+  least = values_same k ds' (value_before (since t k) v) (value_before (since t' k) v') (past.values k le) (same_first k ds ds' (value_before (since t k) v) agree s.least);
+  held = held_same k ds' (value_before (since t k) v) (value_before (since t' k) v') (cause_before (since t k) c) (cause_before (since t' k) c') (past.values k le) (past.causes k le)
+      (held_first k ds ds' (value_before (since t k) v) (cause_before (since t k) c) agree s.held);
+}
 
 -- ---- the answer
-pub now_solved : (n : ℕ) (ds : List Diff) (rows : List ℤ) (starts cycle : List ℕ) → Answered n ds rows starts cycle → (v : ℕ → ℤ) × MeetsAll v ds → Solved n ds rows starts (length ds)
-now_solved n ds rows starts cycle h s = ⊎_elim
-    (λ (least : Solved n ds rows starts (length ds)). least)
-    (λ (c : NegativeCycle ds cycle). absurd (cycles_exclude ds cycle c s.0 s.1))
-    h.now
+since_all : (t : Trailing) (k : ℕ) → length t.starts ≡ k → since t k ≡ []
+since_all t k e =
+    ap (λ i. drop i t.entries) (get_or_past t.starts k (length t.entries) (omega (arith, e)))
+    ∙ drop_all (length t.entries) t.entries (omega arith)
 
-pub now_cycle : (n : ℕ) (ds : List Diff) (rows : List ℤ) (starts cycle : List ℕ) → Answered n ds rows starts cycle → ((v : ℕ → ℤ) → MeetsAll v ds → ⊥) → NegativeCycle ds cycle
-now_cycle n ds rows starts cycle h none = ⊎_elim
-    (λ (least : Solved n ds rows starts (length ds)). let v = listed (row n rows (beside starts (length ds))) in absurd (none v (meets_all ds v least.solves)))
-    (λ (c : NegativeCycle ds cycle). c)
-    h.now
+pub solved_now : (ds : List Diff) (t : Trailing) (v : ℕ → ℤ) (c : ℕ → ℕ) → length t.starts ≡ length ds → LeastOfFirst (length ds) ds v → HeldByFirst (length ds) ds v c → Solved ds t v c (length ds)
+solved_now ds t v c e l h = let none = sym (since_all t (length ds) e) in record {
+  least = subst (λ (ws : List Was). LeastOfFirst (length ds) ds (value_before ws v)) none l;
+  held = subst (λ (ws : List Was). HeldByFirst (length ds) ds (value_before ws v) (cause_before ws c)) none h;
+}
 
--- each list that was pushed so far has its least values
-solved_until : (n : ℕ) (ds : List Diff) (rows : List ℤ) (starts cycle : List ℕ) → Answered n ds rows starts cycle → Solved n ds rows starts (length ds) → (k : ℕ) → k ≤ length ds → Solved n ds rows starts k
-solved_until n ds rows starts cycle h now k l = ⊎_elim
-    (λ (less : k < length ds). h.before k less)
-    (λ (ge : length ds ≤ k). subst (Solved n ds rows starts) (let e : length ds ≡ k = omega (arith, l, ge) in e) now)
-    (cases_lt k (length ds))
+module _ (ds : List Diff) (t : Trailing) (vs : List ℤ) (cs cycle : List ℕ) (h : Answered ds t vs cs cycle) where
+  pub now_solved : (v : ℕ → ℤ) × MeetsAll v ds → Solved ds t (listed vs) (beside cs) (length ds)
+  now_solved s = ⊎_elim
+      (λ (a : Solved ds t (listed vs) (beside cs) (length ds)). a)
+      (λ (c : NegativeCycle ds cycle). absurd (cycles_exclude ds cycle c s.0 s.1))
+      h.now
 
--- ---- the last row
-last_values : (n m : ℕ) (replaced values : List ℤ) (starts : List ℕ) → Rows n (replaced ++ values) starts → length values ≡ n → length starts ≡ m + 1 → row n (replaced ++ values) (beside starts m) ≡ values
-last_values n m replaced values starts r size starts_size =
-    let rows = replaced ++ values in
-    ap (λ k. row n rows (beside starts k)) (let e : m ≡ length starts - 1 = omega (arith, starts_size) in e)
-    ∙ last_row n rows starts r
-    ∙ drop_at replaced values (length rows - n) (let a = length-append replaced values in let e : length replaced ≡ length rows - n = omega (arith, a, size) in e)
+  module _ (e : length t.starts ≡ length ds) where
+    pub now_least : (v : ℕ → ℤ) × MeetsAll v ds → LeastOfFirst (length ds) ds (listed vs)
+    now_least s = subst (λ (ws : List Was). LeastOfFirst (length ds) ds (value_before ws (listed vs))) (since_all t (length ds) e) (now_solved s).least
 
--- the values are the least ones, which is what the last row says
-pub solved_last : (n : ℕ) (ds : List Diff) (replaced values : List ℤ) (starts : List ℕ) → Rows n (replaced ++ values) starts → length values ≡ n → length starts ≡ length ds + 1 → LeastOfFirst (length ds) ds (listed values) → Solved n ds (replaced ++ values) starts (length ds)
-solved_last n ds replaced values starts r size starts_size h = subst (λ (vs : List ℤ). LeastOfFirst (length ds) ds (listed vs)) (sym (last_values n (length ds) replaced values starts r size starts_size)) h
+    pub now_held : (v : ℕ → ℤ) × MeetsAll v ds → HeldByFirst (length ds) ds (listed vs) (beside cs)
+    now_held s = subst (λ (ws : List Was). HeldByFirst (length ds) ds (value_before ws (listed vs)) (cause_before ws (beside cs))) (since_all t (length ds) e) (now_solved s).held
 
-pub last_solved : (n : ℕ) (ds : List Diff) (replaced values : List ℤ) (starts : List ℕ) → Rows n (replaced ++ values) starts → length values ≡ n → length starts ≡ length ds + 1 → Solved n ds (replaced ++ values) starts (length ds) → LeastOfFirst (length ds) ds (listed values)
-last_solved n ds replaced values starts r size starts_size h = subst (λ (vs : List ℤ). LeastOfFirst (length ds) ds (listed vs)) (last_values n (length ds) replaced values starts r size starts_size) h
+    pub now_cycle : ((v : ℕ → ℤ) → MeetsAll v ds → ⊥) → NegativeCycle ds cycle
+    now_cycle none = ⊎_elim
+        (λ (a : Solved ds t (listed vs) (beside cs) (length ds)). absurd (none (listed vs) (meets_all ds (listed vs) (subst (λ (ws : List Was). LeastOfFirst (length ds) ds (value_before ws (listed vs))) (since_all t (length ds) e) a.least).solves)))
+        (λ (c : NegativeCycle ds cycle). c)
+        h.now
 
 -- ---- a push
-pub least_of_older : (ds ds' : List Diff) (d : Diff) (values values' : List ℤ) → ds' ≡ ds ++ d ∷ [] → values' ≡ values → LeastOfFirst (length ds) ds (listed values) → LeastOfFirst (length ds' - 1) ds' (listed values')
-least_of_older ds ds' d values values' e ev h =
-    let size : length ds ≡ length ds' - 1 = (let a = ap length e in let b = length_push ds d in omega (arith, a, b)) in
-    subst (λ (vs : List ℤ). LeastOfFirst (length ds' - 1) ds' (listed vs)) (sym ev)
-    (subst (λ k. LeastOfFirst k ds' (listed values)) size (first_longer (length ds) ds ds' d (listed values) e (omega arith) h))
+module _ (ds ds' : List Diff) (d : Diff) (e : ds' ≡ ds ++ d ∷ []) where
+  longer : length ds ≡ length ds' - 1
+  longer = let a = ap length e in let b = length_push ds d in omega (arith, a, b)
 
-pub pushed_before : (n : ℕ) (ds ds' : List Diff) (d : Diff) (rows rows' : List ℤ) (starts starts' cycle : List ℕ) → Rows n rows starts → length starts ≡ length ds + 1 → Answered n ds rows starts cycle → Solved n ds rows starts (length ds) →
-    ds' ≡ ds ++ d ∷ [] → take (length rows) rows' ≡ rows → take (length ds') starts' ≡ starts → (k : ℕ) → k < length ds' → Solved n ds' rows' starts' k
-pushed_before n ds ds' d rows rows' starts starts' cycle r size h now e kept same k l =
-    let longer : length ds' ≡ length ds + 1 = ap length e ∙ length_push ds d in
-    let start : beside starts k ≡ beside starts' k = ap (λ ss. beside ss k) (sym same) ∙ get_or-take (length ds') starts' k 0 l in
-    let fits : beside starts k + n ≤ length rows = (let a = r.rise k (length starts - 1) (omega (arith, l, longer, size)) (omega (arith, size)) in let t = r.top in omega (arith, a, t)) in
-    let rows_same : row n rows (beside starts k) ≡ row n rows' (beside starts' k) =
-    same_row n (beside starts k) (length rows) rows rows' fits (take_all (length rows) rows (omega arith) ∙ sym kept) ∙ ap (row n rows') start in
-    subst (λ (vs : List ℤ). LeastOfFirst k ds' (listed vs)) rows_same
-    (first_longer k ds ds' d _ e (omega (arith, l, longer)) (solved_until n ds rows starts cycle h now k (omega (arith, l, longer))))
+  pub least_of_older : (vs vs' : List ℤ) → vs' ≡ vs → LeastOfFirst (length ds) ds (listed vs) → LeastOfFirst (length ds' - 1) ds' (listed vs')
+  least_of_older vs vs' ev h =
+      subst (λ (us : List ℤ). LeastOfFirst (length ds' - 1) ds' (listed us)) (sym ev)
+      (subst (λ k. LeastOfFirst k ds' (listed vs)) longer (same_first (length ds) ds ds' (listed vs) (agree_longer ds ds' d e) h))
+
+  pub held_of_older : (vs vs' : List ℤ) (cs cs' : List ℕ) → vs' ≡ vs → cs' ≡ cs → HeldByFirst (length ds) ds (listed vs) (beside cs) → HeldByFirst (length ds' - 1) ds' (listed vs') (beside cs')
+  held_of_older vs vs' cs cs' ev ec h =
+      subst (λ (us : List ℤ). HeldByFirst (length ds' - 1) ds' (listed us) (beside cs')) (sym ev)
+      (subst (λ (us : List ℕ). HeldByFirst (length ds' - 1) ds' (listed vs) (beside us)) (sym ec)
+      (subst (λ k. HeldByFirst k ds' (listed vs) (beside cs)) longer (held_first (length ds) ds ds' (listed vs) (beside cs) (agree_longer ds ds' d e) h)))
+
+  pub pushed_answered : (t t' : Trailing) (vs vs' : List ℤ) (cs cs' cycle cycle' : List ℕ) → Answered ds t vs cs cycle → Solved ds t (listed vs) (beside cs) (length ds) → length t.starts ≡ length ds →
+      SamePast (length t.starts) t t' (listed vs) (listed vs') (beside cs) (beside cs') → Solved ds' t' (listed vs') (beside cs') (length ds') ⊎ NegativeCycle ds' cycle' → Answered ds' t' vs' cs' cycle'
+  pushed_answered t t' vs vs' cs cs' cycle cycle' h now size past now' = record {
+    before = λ k l.
+        let m = longer in
+        solved_same k (length t.starts) ds ds' t t' (listed vs) (listed vs') (beside cs) (beside cs')
+        (λ i li. agree_longer ds ds' d e i (omega (arith, l, li, m)))
+        (omega (arith, l, m, size)) past
+        (⊎_elim
+        (λ (less : k < length ds). h.before k less)
+        (λ (ge : length ds ≤ k). subst (Solved ds t (listed vs) (beside cs)) (let s : length ds ≡ k = omega (arith, l, ge, m) in s) now)
+        (cases_lt k (length ds)));
+    now = now';
+  }
 
 -- ---- a pop
-pub popped : (n : ℕ) (ds ds' : List Diff) (rows rows' : List ℤ) (starts starts' cycle : List ℕ) → Rows n rows starts → length starts ≡ length ds + 1 → Answered n ds rows starts cycle → 0 < length ds →
-    ds' ≡ take (length ds - 1) ds → length ds' ≡ length ds - 1 → rows' ≡ take (beside starts (length ds - 1) + n) rows → starts' ≡ take (length ds) starts → Answered n ds' rows' starts' cycle
-popped n ds ds' rows rows' starts starts' cycle r size h some e shorter er es =
-    let at_most : (k : ℕ) → k ≤ length ds - 1 → Solved n ds' rows' starts' k = (λ k l.
-    let start : beside starts k ≡ beside starts' k = sym (ap (λ ss. beside ss k) es ∙ get_or-take (length ds) starts k 0 (omega (arith, l, some))) in
-    let rise = r.rise k (length ds - 1) l (omega (arith, size)) in
-    let m = beside starts (length ds - 1) + n in
-    let rows_same : row n rows (beside starts k) ≡ row n rows' (beside starts' k) =
-    same_row n (beside starts k) m rows rows' (omega (arith, rise)) (sym (ap (take m) er ∙ take-take m m rows (omega arith))) ∙ ap (row n rows') start in
-    subst (λ (vs : List ℤ). LeastOfFirst k ds' (listed vs)) rows_same (first_shorter k (length ds - 1) ds ds' _ e l (h.before k (omega (arith, l, some))))) in
+pub popped : (ds ds' : List Diff) (t t' : Trailing) (vs vs' : List ℤ) (cs cs' cycle : List ℕ) → Answered ds t vs cs cycle → 0 < length ds → ds' ≡ take (length ds - 1) ds → length ds' ≡ length ds - 1 → length t'.starts ≡ length ds' →
+    SamePast (length t'.starts) t t' (listed vs) (listed vs') (beside cs) (beside cs') → Answered ds' t' vs' cs' cycle
+popped ds ds' t t' vs vs' cs cs' cycle h some e shorter size past =
+    let at_most : (k : ℕ) → k ≤ length ds' → Solved ds' t' (listed vs') (beside cs') k = (λ k l.
+    solved_same k (length t'.starts) ds ds' t t' (listed vs) (listed vs') (beside cs) (beside cs')
+    (λ i li. agree_shorter (length ds - 1) ds ds' e i (omega (arith, l, li, shorter)))
+    (omega (arith, l, size)) past
+    (h.before k (omega (arith, l, some, shorter)))) in
     record {
-      before = λ k l. at_most k (omega (arith, l, shorter));
-      now = inl (at_most (length ds') (omega (arith, shorter)));
-    }
-
--- the row of the shorter list is the last one, or one of the replaced
-pub popped_place : (n m : ℕ) (replaced values : List ℤ) (starts : List ℕ) → Rows n (replaced ++ values) starts → length values ≡ n → length starts ≡ m + 1 → 0 < m → (beside starts (m - 1) ≡ length replaced) ⊎ (beside starts (m - 1) + n ≤ length replaced)
-popped_place n m replaced values starts r size starts_size some =
-    let t = r.top in
-    let a = length-append replaced values in
-    let last : beside starts (m - 1 + 1) ≡ length replaced =
-    (let e = ap (beside starts) (let f : m - 1 + 1 ≡ length starts - 1 = omega (arith, starts_size, some) in f) in omega (arith, e, t, a, size)) in
-    ⊎_elim
-    (λ (e : beside starts (m - 1 + 1) ≡ beside starts (m - 1)). inl (omega (arith, e, last)))
-    (λ (l : beside starts (m - 1) + n ≤ beside starts (m - 1 + 1)). inr (omega (arith, l, last)))
-    (r.step (m - 1) (omega (arith, starts_size, some)))
-
-pub popped_rows : (n : ℕ) (rows rows' : List ℤ) (starts starts' : List ℕ) (m : ℕ) → Rows n rows starts → length starts ≡ m + 1 → 0 < m → length rows' ≡ beside starts (m - 1) + n → starts' ≡ take m starts → length starts' ≡ m → Rows n rows' starts'
-popped_rows n rows rows' starts starts' m r size some er es shorter =
-    let same : (k : ℕ) → k < m → beside starts' k ≡ beside starts k = (λ k l. ap (λ ss. beside ss k) es ∙ get_or-take m starts k 0 l) in
-    record {
-      some = omega (arith, some, shorter);
-      rise = λ j k le l. let a = same j (omega (arith, le, l, shorter)) in let b = same k (omega (arith, l, shorter)) in let h = r.rise j k le (omega (arith, l, shorter, size)) in omega (arith, a, b, h);
-      step = λ k l.
-          let a = same k (omega (arith, l, shorter)) in
-          let b = same (k + 1) (omega (arith, l, shorter)) in
-          ⊎_elim
-          (λ (e : beside starts (k + 1) ≡ beside starts k). inl (omega (arith, a, b, e)))
-          (λ (h : beside starts k + n ≤ beside starts (k + 1)). inr (omega (arith, a, b, h)))
-          (r.step k (omega (arith, l, shorter, size)));
-      room = λ k l. let b = same k (omega (arith, l, shorter)) in let h = r.room k (omega (arith, l, shorter, size)) in omega (arith, b, h);
-      top = let e = ap (beside starts') (let f : length starts' - 1 ≡ m - 1 = omega (arith, shorter) in f) in let b = same (m - 1) (omega (arith, some)) in omega (arith, e, b, er);
+      before = λ k l. at_most k (omega (arith, l));
+      now = inl (at_most (length ds') (omega arith));
     }
 
 pub pushed_range : (n : ℕ) (ds ds' : List Diff) (d : Diff) → ds' ≡ ds ++ d ∷ [] → InRange n ds → d.x < n → d.y < n → InRange n ds'
@@ -150,17 +179,6 @@ pushed_range n ds ds' d e h x y = subst (InRange n) (sym e) (All-push (λ (c : D
 
 pub pushed_small : (ds ds' : List Diff) (d : Diff) → ds' ≡ ds ++ d ∷ [] → All Small ds → Small d → All Small ds'
 pushed_small ds ds' d e h s = subst (λ (cs : List Diff). All Small cs) (sym e) (All-push Small ds d h s)
-
--- the lists as the code passes them on, and the whole answer
-pub pushed_answered : (n m : ℕ) (ds ds' ds'' : List Diff) (d : Diff) (rows rows' : List ℤ) (starts starts' cycle cycle' : List ℕ) → Rows n rows starts → length starts ≡ length ds + 1 → Answered n ds rows starts cycle → Solved n ds rows starts (length ds) →
-    ds' ≡ ds ++ d ∷ [] → ds'' ≡ ds' → m ≡ n → take (length rows) rows' ≡ rows → take (length ds'') starts' ≡ starts → Solved m ds'' rows' starts' (length ds'') ⊎ NegativeCycle ds' cycle' → Answered n ds' rows' starts' cycle'
-pushed_answered n m ds ds' ds'' d rows rows' starts starts' cycle cycle' r size h now e e' em kept same now' = record {
-  before = pushed_before n ds ds' d rows rows' starts starts' cycle r size h now e kept (ap (λ (cs : List Diff). take (length cs) starts') (sym e') ∙ same);
-  now = ⊎_elim
-      (λ (s : Solved m ds'' rows' starts' (length ds'')). inl (subst (λ j. Solved j ds' rows' starts' (length ds')) em (subst (λ (cs : List Diff). Solved m cs rows' starts' (length cs)) e' s)))
-      (λ (c : NegativeCycle ds' cycle'). inr c)
-      now';
-}
 
 -- ---- what is shown
 module _ (n : ℕ) (ds : List Diff) (values : List ℤ) (few : n ≤ 768) (range : InRange n ds) (small : All Small ds) (h : LeastOfFirst (length ds) ds (listed values)) (x : ℕ) (t : ℤ) (is : t ≡ listed values x) where
@@ -191,22 +209,18 @@ empty_chained n = record {
   next = λ i l. absurd (omega (arith, l));
 }
 
-pub empty_rows : (n : ℕ) → Rows n (replicate n (pos 0)) (0 ∷ [])
-empty_rows n = record {
-  some = omega arith;
-  rise = λ j k le l. let a = ap (beside (0 ∷ [])) (let e : j ≡ k = omega (arith, le, l) in e) in omega (arith, a);
-  step = λ k l. absurd (omega (arith, l));
-  room = λ k l. let a = ap (beside (0 ∷ [])) (let e : k ≡ 0 = omega (arith, l) in e) in omega (arith, a);
-  top = let s = length-replicate n (pos 0) in omega (arith, s);
-}
-
-pub empty_answered : (n : ℕ) (cycle : List ℕ) → Answered n [] (replicate n (pos 0)) (0 ∷ []) cycle
-empty_answered n cycle = record {
+pub empty_answered : (t : Trailing) (cs cycle : List ℕ) (n : ℕ) → t.starts ≡ [] → Answered [] t (replicate n (pos 0)) cs cycle
+empty_answered t cs cycle n none = record {
   before = λ k l. absurd (omega (arith, l));
-  now = inl (subst (λ (vs : List ℤ). LeastOfFirst 0 [] (listed vs)) (sym (take_all n (replicate n (pos 0)) (let s = length-replicate n (pos 0) in omega (arith, s)))) (record {
+  now = inl (solved_now [] t (listed (replicate n (pos 0))) (beside cs) (ap length none) (record {
     solves = λ i l. absurd (omega (arith, l));
     from_zero = λ x. let a = listed-zeros n x in omega (arith, ints, a);
     least = λ w m z x. let a = listed-zeros n x in let b = z x in omega (arith, ints, a, b);
+  }) (record {
+    time = λ y. 0;
+    now = 1;
+    earlier = λ y. omega arith;
+    caused = λ y up. absurd (let a = listed-zeros n y in omega (arith, ints, a, up));
   }));
 }
 

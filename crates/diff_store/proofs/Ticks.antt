@@ -58,3 +58,6 @@ test_exact v c w m low high = (
 
 pub tick_is : (x : ℤ) → pos 0 ≤ℤ x → x ≤ℤ pos 7_690_000_000_000_000 → to_z w64 (of_z w64 x) ≡ x
 tick_is x low high = same_in _ _ (omega (arith, ints, low, high))
+
+pub value_is : (x : ℤ) → pos 0 ≤ℤ x → x ≤ℤ pos 20_000_000_000_000_000 → to_z w64 (of_z w64 x) ≡ x
+value_is x low high = same_in _ _ (omega (arith, ints, low, high))

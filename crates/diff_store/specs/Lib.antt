@@ -4,6 +4,6 @@ pub mod Chains
 pub mod Leasts
 pub mod Queued
 pub mod Raising
-pub mod Rows
 pub mod Standing
 pub mod Storing
+pub mod Trails

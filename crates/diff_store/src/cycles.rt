@@ -1,30 +1,52 @@
-//! The cycle that the newest constraint closes.
+//! The chain of causes below the newest constraint, and the cycle that a constraint closes with it.
 
-ghost use Rattle.std.specs.Prelude.{◌≡◌, ◌<◌, length, drop};
-ghost use Rattle.tick_num.specs.Differences.{InRange, NegativeCycle};
-ghost use Rattle.diff_store.specs.Causes.{newest, LeadsHome};
+ghost use Rattle.std.specs.Prelude.{◌≡◌, ℕ, ◌-◌, ◌<◌, length, drop, true};
+ghost use Rattle.tick_num.specs.Differences.{InRange, NegativeCycle, listed};
+ghost use Rattle.diff_store.specs.Causes.{beside, marked, Chain, HeldByFirst, LeadsHome};
 
-use tick_num::Diff;
+use tick_num::{Diff, Time};
 
-/// Writes the causes that lead from the `x` of the newest constraint back to that constraint into
-/// the end of `cycle`, and answers where they start.
-pub(crate) fn close(list: &[Diff], causes: &[u32], cycle: &mut [u32]) -> usize
-    requires some { 0 < length list.now }
+/// Marks the variables of the chain of causes from `x` down.
+pub(crate) fn mark_chain(list: &[Diff], values: &[Time], causes: &[u32], x: u32, chain: &mut [bool])
+    requires range { InRange (length values.now) list.now }
+    requires x { x < length values.now }
+    requires causes { length causes.now ≡ length values.now }
+    requires held { HeldByFirst (length list.now - 1) list.now
+        (listed values.now) (beside causes.now) }
+    requires size { length chain.old ≡ length values.now }
+    ensures own { marked chain.new x ≡ true }
+    ensures chain { Chain list.now (listed values.now) (beside causes.now) chain.new x }
+{
+    chain.fill(false);
+    chain[x as usize] = true;
+    let mut variable = x;
+    for _step in 0..values.len() {
+        if values[variable as usize] <= 0 {
+            return;
+        }
+        variable = list[causes[variable as usize] as usize].x;
+        chain[variable as usize] = true;
+    }
+}
+
+/// Writes the causes that lead from the `y` of a constraint back to it into the end of `cycle`, that
+/// constraint at the end, and answers where they start.
+pub(crate) fn close(list: &[Diff], causes: &[u32], last: u32, cycle: &mut [u32]) -> usize
     requires range { InRange (length causes.now) list.now }
     requires size { length cycle.old ≡ length causes.now }
-    requires home { LeadsHome list.now causes.now }
+    requires home { LeadsHome list.now causes.now last }
     ensures start { result < length cycle.new }
     ensures cycle { NegativeCycle list.now (drop result cycle.new) }
 {
-    let newest = list.len() - 1;
-    let mut variable = list[newest].x;
-    for start in (0..causes.len()).rev() {
+    let top = list[last as usize].y;
+    let mut variable = list[last as usize].x;
+    let mut start = cycle.len() - 1;
+    cycle[start] = last;
+    while variable != top {
         let position = causes[variable as usize];
+        start -= 1;
         cycle[start] = position;
-        if position as usize == newest {
-            return start;
-        }
         variable = list[position as usize].x;
     }
-    unreachable!()
+    start
 }

@@ -2,11 +2,12 @@
 //! stand, or a cycle of bounds that forbids them.
 #![tactic(auto)]
 
+mod answering;
 mod chains;
 mod cycles;
 mod raising;
-mod rows;
 mod store;
+mod trail;
 mod worklist;
 
 pub use store::{Pushed, Store};

@@ -1,14 +1,16 @@
 //! Raising values until the constraints are met again.
 
-ghost use Rattle.std.specs.Prelude.{◌≡◌, ℕ, ◌+◌, ◌-◌, ◌<◌, ◌≤◌, ◌↔◌, ◌^◌, length, All, IsTrue, pos, ◌≤ℤ◌};
+ghost use Rattle.std.specs.Prelude.{◌≡◌, ℕ, ◌+◌, ◌-◌, ◌<◌, ◌≤◌, ◌↔◌, ◌^◌, length, All, IsTrue, IfSome, IfNone, true, pos, ◌≤ℤ◌};
 ghost use Rattle.std.specs.Bool.{OnTrue, OnFalse};
 ghost use Rattle.tick_num.specs.Differences.{InRange, Meets, listed};
 ghost use Rattle.diff_store.specs.Bounds.{Small};
 ghost use Rattle.diff_store.specs.Leasts.{at, FromZero, LeastOfFirst, Low};
 ghost use Rattle.diff_store.specs.Chains.{Chained};
-ghost use Rattle.diff_store.specs.Causes.{newest, LeadsHome};
+ghost use Rattle.diff_store.specs.Causes.{beside, marked, newest, Chain, HeldByFirst, LeadsHome};
 ghost use Rattle.diff_store.specs.Raising.{Raising, NoneWaits, left_to_do};
+ghost use Rattle.diff_store.specs.Trails.{Kept, KeepsPast};
 
+use crate::trail::Trail;
 use crate::worklist::Worklist;
 use tick_num::{Diff, Time};
 
@@ -25,109 +27,146 @@ pub(crate) fn is_met(values: &[Time], d: Diff) -> bool
 }
 
 /// Raises the value of `y` to what the constraint at a position forces, where it is lower. False
-/// where that is the variable that must keep its value.
+/// where that is a variable of the chain, which must keep its value.
 fn raise(
     list: &[Diff],
     position: u32,
-    kept: u32,
+    chain: &[bool],
     values: &mut [Time],
     causes: &mut [u32],
+    trail: &mut Trail,
     worklist: &mut Worklist,
 ) -> bool
     requires range { InRange (length values.old) list.now }
     requires small { All Small list.now }
     requires within { position < length list.now }
-    requires kept { kept ≡ (newest list.now).x }
-    requires state { Raising list.now values.old causes.old worklist.old (at list.now position).x (position + 1) }
-    ensures state { OnTrue result (Raising list.now values.new causes.new worklist.new (at list.now position).x position) }
-    ensures falls { OnTrue result (left_to_do values.new worklist.new ≤ left_to_do values.old worklist.old) }
-    ensures home { OnFalse result (LeadsHome list.now causes.new) }
+    requires chain { length chain.now ≡ length values.old }
+    requires size { length trail.old.kept ≡ length values.old }
+    requires kept { Kept trail.old }
+    requires state { Raising list.now values.old causes.old chain.now worklist.old
+        (at list.now position).x (position + 1) }
+
+    ensures state { OnTrue result (Raising list.now values.new causes.new chain.now worklist.new
+        (at list.now position).x position) }
+    ensures falls { OnTrue result
+        (left_to_do values.new worklist.new ≤ left_to_do values.old worklist.old) }
+    ensures home { OnFalse result (LeadsHome list.now causes.new position) }
+
+    ensures past { KeepsPast trail.old trail.new (listed values.old) (listed values.new)
+        (beside causes.old) (beside causes.new) }
     ensures waits { length worklist.new ≡ length worklist.old }
 {
     let d = list[position as usize];
     let forced = values[d.x as usize] - d.c;
-    if forced <= values[d.y as usize] {
+    let value = values[d.y as usize];
+    if forced <= value {
         return true;
     }
-    causes[d.y as usize] = position;
-    if d.y == kept {
+    if chain[d.y as usize] {
         return false;
     }
+    trail.keep(d.y, value, causes[d.y as usize]);
     values[d.y as usize] = forced;
+    causes[d.y as usize] = position;
     worklist.add(d.y);
     true
 }
 
-/// Raises what the constraints from a variable force.
+/// Raises what the constraints from a variable force, up to one that would raise a variable of the
+/// chain.
 fn raise_from(
     list: &[Diff],
     heads: &[Option<u32>],
     nexts: &[Option<u32>],
     variable: u32,
-    kept: u32,
+    chain: &[bool],
     values: &mut [Time],
     causes: &mut [u32],
+    trail: &mut Trail,
     worklist: &mut Worklist,
-) -> bool
+) -> Option<u32>
     requires range { InRange (length values.old) list.now }
     requires small { All Small list.now }
     requires chained { Chained (length values.old) list.now heads.now nexts.now }
     requires variable { variable < length values.old }
-    requires kept { kept ≡ (newest list.now).x }
-    requires state { Raising list.now values.old causes.old worklist.old variable (length list.now) }
-    ensures state { OnTrue result (Raising list.now values.new causes.new worklist.new variable 0) }
-    ensures falls { OnTrue result (left_to_do values.new worklist.new ≤ left_to_do values.old worklist.old) }
-    ensures home { OnFalse result (LeadsHome list.now causes.new) }
+    requires chain { length chain.now ≡ length values.old }
+    requires size { length trail.old.kept ≡ length values.old }
+    requires kept { Kept trail.old }
+    requires state { Raising list.now values.old causes.old chain.now worklist.old
+        variable (length list.now) }
+
+    ensures state { IfNone result (Raising list.now values.new causes.new chain.now worklist.new
+        variable 0) }
+    ensures falls { IfNone result
+        (left_to_do values.new worklist.new ≤ left_to_do values.old worklist.old) }
+    ensures home { IfSome result (λ position. LeadsHome list.now causes.new position) }
+
+    ensures past { KeepsPast trail.old trail.new (listed values.old) (listed values.new)
+        (beside causes.old) (beside causes.new) }
     ensures waits { length worklist.new ≡ length worklist.old }
 {
     let mut link = heads[variable as usize];
     while let Some(position) = link {
-        if !raise(list, position, kept, values, causes, worklist) {
-            return false;
+        if !raise(list, position, chain, values, causes, trail, worklist) {
+            return Some(position);
         }
         link = nexts[position as usize];
     }
-    true
+    None
 }
 
-/// Raises what the constraints from the waiting variables force, until none waits.
+/// Raises what the constraints from the waiting variables force, until none waits or a variable of
+/// the chain would rise.
 fn settle(
     list: &[Diff],
     heads: &[Option<u32>],
     nexts: &[Option<u32>],
-    kept: u32,
+    chain: &[bool],
     values: &mut [Time],
     causes: &mut [u32],
+    trail: &mut Trail,
     worklist: &mut Worklist,
-) -> bool
+) -> Option<u32>
     requires range { InRange (length values.old) list.now }
     requires small { All Small list.now }
     requires chained { Chained (length values.old) list.now heads.now nexts.now }
-    requires kept { kept ≡ (newest list.now).x }
-    requires state { Raising list.now values.old causes.old worklist.old 0 0 }
-    ensures least { OnTrue result (LeastOfFirst (length list.now) list.now (listed values.new)) }
-    ensures none { OnTrue result (NoneWaits worklist.new) }
-    ensures home { OnFalse result (LeadsHome list.now causes.new) }
+    requires chain { length chain.now ≡ length values.old }
+    requires size { length trail.old.kept ≡ length values.old }
+    requires kept { Kept trail.old }
+    requires state { Raising list.now values.old causes.old chain.now worklist.old 0 0 }
+
+    ensures least { IfNone result (LeastOfFirst (length list.now) list.now (listed values.new)) }
+    ensures held { IfNone result (HeldByFirst (length list.now) list.now
+        (listed values.new) (beside causes.new)) }
+    ensures none { IfNone result (NoneWaits worklist.new) }
+    ensures home { IfSome result (λ position. LeadsHome list.now causes.new position) }
+
+    ensures past { KeepsPast trail.old trail.new (listed values.old) (listed values.new)
+        (beside causes.old) (beside causes.new) }
     ensures waits { length worklist.new ≡ length worklist.old }
 {
     while let Some(variable) = worklist.take() {
-        if !raise_from(list, heads, nexts, variable, kept, values, causes, worklist) {
-            return false;
+        if let Some(position) = raise_from(
+            list, heads, nexts, variable, chain, values, causes, trail, worklist,
+        ) {
+            return Some(position);
         }
     }
-    true
+    None
 }
 
-/// Raises the least values of the older constraints to those of the whole list. False where its
-/// newest constraint leads back to itself.
+/// Raises the least values of the older constraints to those of the whole list. Else it answers the
+/// position of a constraint from which the causes lead back to itself.
 pub(crate) fn answer_newest(
     list: &[Diff],
     heads: &[Option<u32>],
     nexts: &[Option<u32>],
+    chain: &[bool],
     values: &mut [Time],
     causes: &mut [u32],
+    trail: &mut Trail,
     worklist: &mut Worklist,
-) -> bool
+) -> Option<u32>
     requires some { 0 < length list.now }
     requires long { length list.now < 2 ^ 32 }
     requires range { InRange (length values.old) list.now }
@@ -135,18 +174,31 @@ pub(crate) fn answer_newest(
     requires chained { Chained (length values.old) list.now heads.now nexts.now }
     requires least { LeastOfFirst (length list.now - 1) list.now (listed values.old) }
     requires low { Low (listed values.old) }
+    requires held { HeldByFirst (length list.now - 1) list.now
+        (listed values.old) (beside causes.old) }
     requires causes { length causes.old ≡ length values.old }
     requires waits { length worklist.old ≡ length values.old }
     requires none { NoneWaits worklist.old }
-    ensures least { OnTrue result (LeastOfFirst (length list.now) list.now (listed values.new)) }
-    ensures none { OnTrue result (NoneWaits worklist.new) }
-    ensures home { OnFalse result (LeadsHome list.now causes.new) }
+    requires chain { length chain.now ≡ length values.old }
+    requires own { marked chain.now (newest list.now).x ≡ true }
+    requires descends { Chain list.now (listed values.old) (beside causes.old) chain.now
+        (newest list.now).x }
+    requires size { length trail.old.kept ≡ length values.old }
+    requires kept { Kept trail.old }
+
+    ensures least { IfNone result (LeastOfFirst (length list.now) list.now (listed values.new)) }
+    ensures held { IfNone result (HeldByFirst (length list.now) list.now
+        (listed values.new) (beside causes.new)) }
+    ensures none { IfNone result (NoneWaits worklist.new) }
+    ensures home { IfSome result (λ position. LeadsHome list.now causes.new position) }
+
+    ensures past { KeepsPast trail.old trail.new (listed values.old) (listed values.new)
+        (beside causes.old) (beside causes.new) }
     ensures waits { length worklist.new ≡ length worklist.old }
 {
-    let position = list.len() - 1;
-    let kept = list[position].x;
-    if !raise(list, position as u32, kept, values, causes, worklist) {
-        return false;
+    let position = (list.len() - 1) as u32;
+    if !raise(list, position, chain, values, causes, trail, worklist) {
+        return Some(position);
     }
-    settle(list, heads, nexts, kept, values, causes, worklist)
+    settle(list, heads, nexts, chain, values, causes, trail, worklist)
 }

@@ -4,9 +4,10 @@ ghost use Rattle.std.specs.Prelude.{◌≡◌, ℕ, ◌-◌, ◌<◌, ◌≤◌,
 ghost use Rattle.tick_num.specs.Differences.{LeastValues, MeetsAll, NegativeCycle, listed};
 ghost use Rattle.diff_store.specs.Bounds.{Small};
 
+use crate::answering::answer;
 use crate::chains::{link, no_heads, unlink};
 use crate::cycles::close;
-use crate::rows::{answer, first_start, put_back, zeros};
+use crate::trail::Trail;
 use crate::worklist::Worklist;
 use std::alloc::{AllocError, Global};
 use std::marker::Model;
@@ -36,12 +37,12 @@ pub struct Store {
     nexts: Vec<Option<u32>>,
     /// The value of each variable.
     values: Vec<Time>,
-    /// The values of all variables before each push that changed some.
-    replaced: Vec<Time>,
-    /// For each number of constraints, where the values of that list start among the replaced ones.
-    starts: Vec<usize>,
     /// The position of the constraint that last raised each variable.
     causes: Vec<u32>,
+    /// Whether each variable is on the chain of causes from the newest constraint's `x` down.
+    chain: Vec<bool>,
+    /// What the pushes have replaced.
+    trail: Trail,
     /// A cycle of positions, at the end.
     cycle: Vec<u32>,
     /// Where the cycle starts.
@@ -79,10 +80,10 @@ impl Store {
             list: Vec::with_capacity(alloc, len)?,
             heads: no_heads(alloc, variables)?,
             nexts: Vec::with_capacity(alloc, len)?,
-            values: zeros(alloc, variables)?,
-            replaced: Vec::with_capacity(alloc, variables * len)?,
-            starts: first_start(alloc, len + 1)?,
+            values: vec![in alloc; 0; variables]?,
             causes: vec![in alloc; 0; variables]?,
+            chain: vec![in alloc; false; variables]?,
+            trail: Trail::reserve(alloc, variables, len)?,
             cycle: vec![in alloc; 0; variables]?,
             start: 0,
             worklist: Worklist::reserve(alloc, variables)?,
@@ -104,21 +105,21 @@ impl Store {
         ensures constraints { self.new.constraints ≡ self.old.constraints }
     {
         link(&mut self.list, &mut self.heads, &mut self.nexts, d);
-        let solvable = answer(
+        let closing = answer(
             &self.list,
             &self.heads,
             &self.nexts,
+            &mut self.chain,
             &mut self.values,
-            &mut self.replaced,
-            &mut self.starts,
             &mut self.causes,
+            &mut self.trail,
             &mut self.worklist,
         );
-        if solvable {
+        let Some(closing) = closing else {
             return Pushed::Solvable;
-        }
+        };
         self.worklist.clear();
-        self.start = close(&self.list, &self.causes, &mut self.cycle);
+        self.start = close(&self.list, &self.causes, closing, &mut self.cycle);
         Pushed::Closed
     }
 
@@ -130,9 +131,7 @@ impl Store {
         ensures constraints { self.new.constraints ≡ self.old.constraints }
     {
         unlink(&mut self.list, &mut self.heads, &mut self.nexts);
-        let last = self.list.len();
-        put_back(&mut self.values, &mut self.replaced, self.starts[last]);
-        self.starts.truncate(last + 1);
+        self.trail.undo(&mut self.values, &mut self.causes);
     }
 
     /// How many constraints the list has.

@@ -1,5 +1,5 @@
-//! Small lists with their answers, pops that bring earlier values back, a long chain, and many
-//! pushes that change nothing.
+//! Small lists with their answers, pops that bring earlier values back, pushes that chains close, a
+//! long chain, and many pushes that change nothing.
 
 ghost use Rattle.std.specs.Prelude.{◌≡◌, ℕ, ◌+◌, ◌<◌, ◌≤◌, ◌↔◌, ℤ, length, IfOk, IsTrue};
 ghost use Rattle.tick_num.specs.Differences.{MeetsAll};
@@ -98,6 +98,25 @@ fn small_systems(rt: HostRuntime) -> Result<(), Fail> {
     assert_eq!(rt; (store.least(0), store.least(1)), (0, 0));
     close(&rt, &mut store, 3, Diff { x: 0, y: 0, c: -1 }, &[0]);
     assert_eq!(rt; store.least(0), 0);
+    Ok(())
+}
+
+/// Pushes that would raise a variable of the chain below their own `x`, at once and behind another.
+#[test]
+fn closed_chains(rt: HostRuntime) -> Result<(), Fail> {
+    let mut store = made(rt.alloc(), 5, 5)?;
+    push(&rt, &mut store, 5, Diff { x: 0, y: 1, c: -2 });
+    push(&rt, &mut store, 5, Diff { x: 1, y: 2, c: -2 });
+    close(&rt, &mut store, 5, Diff { x: 2, y: 1, c: 1 }, &[1, 2]);
+    push(&rt, &mut store, 5, Diff { x: 3, y: 1, c: 3 });
+    push(&rt, &mut store, 5, Diff { x: 3, y: 4, c: -1 });
+    close(&rt, &mut store, 5, Diff { x: 2, y: 3, c: -2 }, &[1, 2, 4]);
+    assert_eq!(rt; (store.least(1), store.least(2)), (2, 4));
+    assert_eq!(rt; (store.least(3), store.least(4)), (0, 1));
+    push(&rt, &mut store, 5, Diff { x: 2, y: 3, c: -1 });
+    assert_eq!(rt; (store.least(3), store.least(4)), (5, 6));
+    pop(&mut store);
+    assert_eq!(rt; (store.least(3), store.least(4)), (0, 1));
     Ok(())
 }
 

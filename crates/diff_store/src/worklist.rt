@@ -4,28 +4,32 @@ ghost use Rattle.std.specs.Prelude.{◌≡◌, ◌<◌, length, replicate, slice
 ghost use Rattle.diff_store.specs.Raising.{waits_in, NoneWaits};
 
 use std::alloc::{AllocError, Global};
-use std::collections::VecDeque;
 use std::marker::Model;
+use std::mem::swap;
 
-/// Variables that wait, each once, taken in the order in which they came.
+/// Variables that wait, each once, taken batch by batch: those that come while a batch is taken are
+/// the next one. Of a batch the last comes first, since chains of constraints have the last first.
 #[derive(Drop)]
 pub(crate) struct Worklist {
-    /// The variables that wait.
-    queue: VecDeque<u32>,
+    /// The batch that is taken.
+    now: Vec<u32>,
+    /// The next one.
+    later: Vec<u32>,
     /// Whether each variable waits.
     waits: Vec<bool>,
 }
 
 impl Model for Worklist {
-    ghost use Rattle.std.specs.Prelude.{List, Bool, length, ◌≤◌};
-    ghost use Rattle.std.specs.VecDeque.{deque_capacity};
+    ghost use Rattle.std.specs.Prelude.{List, Bool, length, ◌≤◌, vec_capacity};
     ghost use Rattle.diff_store.specs.Queued.{Queued};
 
     ghost Value = { List Bool };
 
     ghost view = { λ w. w.waits.items };
 
-    ghost invariant = { λ w. Queued w.queue.items w.waits.items × (length w.waits.items ≤ deque_capacity w.queue) };
+    ghost invariant = { λ w. Queued w.now.items w.later.items w.waits.items
+        × (length w.waits.items ≤ vec_capacity w.now)
+        × (length w.waits.items ≤ vec_capacity w.later) };
 }
 
 impl Worklist {
@@ -34,7 +38,8 @@ impl Worklist {
         ensures { IfOk result (λ w. w ≡ replicate n false) }
     {
         Ok(Worklist {
-            queue: VecDeque::with_capacity(alloc, n)?,
+            now: Vec::with_capacity(alloc, n)?,
+            later: Vec::with_capacity(alloc, n)?,
             waits: vec![in alloc; false; n]?,
         })
     }
@@ -48,10 +53,10 @@ impl Worklist {
             return;
         }
         self.waits[variable as usize] = true;
-        self.queue.push_back(variable).unwrap();
+        self.later.push(variable).unwrap();
     }
 
-    /// Takes the variable that has waited longest; None where none waits.
+    /// Takes a variable, of the next batch where this one is done; None where none waits.
     pub(crate) fn take(&mut self) -> Option<u32>
         ensures range { IfSome result (λ x. x < length self.old) }
         ensures waited { IfSome result (λ x. waits_in self.old x ≡ true) }
@@ -59,7 +64,12 @@ impl Worklist {
         ensures none { IfNone result (NoneWaits self.new) }
         ensures same { IfNone result (self.new ≡ self.old) }
     {
-        let variable = self.queue.pop_front()?;
+        if let Some(variable) = self.now.pop() {
+            self.waits[variable as usize] = false;
+            return Some(variable);
+        }
+        swap(&mut self.now, &mut self.later);
+        let variable = self.now.pop()?;
         self.waits[variable as usize] = false;
         Some(variable)
     }

@@ -3,3 +3,4 @@ pub mod Bits
 pub mod FittingLines
 pub mod Limits
 pub mod ReadSoFar
+pub mod LongTexts

@@ -1,5 +1,5 @@
 -- The numbers that are printed are spelled.
-use Rattle.std.proofs.Common.{◌≡◌, ◌<◌, ◌^◌, ℤ, pos, negsuc, suc, unsigned_abs, sym, ap, arith, List, ℕ, ◌∷◌}
+use Rattle.std.proofs.Common.{◌≡◌, ◌<◌, ◌^◌, ℤ, pos, negsuc, suc, unsigned_abs, ap, List, ℕ, ◌∷◌}
 use Rattle.std.specs.Fmt.{signed_decimal}
 use Rattle.ttw_text.specs.Numbers.{signed_spelled}
 use Rattle.ttw_text.proofs.Spellings.{spelled-decimal}

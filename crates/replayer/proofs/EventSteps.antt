@@ -1,21 +1,19 @@
 -- One event of a replay
-use Rattle.std.proofs.Common.{ℤ, pos, ◌≤ℤ◌, ◌≡◌, ℕ, zero, suc, ◌+◌, ◌<◌, ◌≤◌, List, [], ◌∷◌, ◌++◌, length, map, reverse, get_or, All, Option, Some, None, refl, sym, ◌∙◌, ap, subst, arith, append_assoc, append-nil, length-append}
-use Rattle.std.specs.Prelude.{Result, Ok, Err, OnOk, OnErr, filter, if◌then◌else◌, ◌+ℤ◌, ◌^◌, Bool, true, false}
-use Rattle.std.specs.List.{flat_map, fold}
+use Rattle.std.proofs.Common.{ℤ, pos, ◌≤ℤ◌, ◌≡◌, ℕ, suc, ◌<◌, ◌≤◌, List, [], ◌∷◌, ◌++◌, length, map, reverse, All, Option, refl, sym, ◌∙◌, ap, subst, arith, append_assoc, append-nil, length-append}
+use Rattle.std.specs.Prelude.{Result, Ok, Err, OnErr, ◌^◌}
+use Rattle.std.specs.List.{flat_map}
 use Rattle.std.proofs.lemmas.Int.{ints}
 use Rattle.std.proofs.lemmas.List.{get_or_default, length-map, map-append, reverse-append, length-reverse}
-use Rattle.std.proofs.lemmas.List.Elements.{All-map, filter-append}
-use Rattle.std.proofs.lemmas.List.Sums.{fold-append}
+use Rattle.std.proofs.lemmas.List.Elements.{All-map}
 use Rattle.std.proofs.lemmas.Grind.{flat_map-append}
-use Rattle.ttw_io.specs.Buffering.{Passes}
+use Rattle.ttw_io.specs.Buffering.{OnlyWrites, Passes}
 use Rattle.ttw_io.specs.Outside.{AddsFront, Rose}
 use Rattle.ttw_io.proofs.BufferLemmas.{Passes-Passes, Passes-AddsFront, AddsFront-append}
 use Rattle.app_graph.specs.declared.mode_set.ModeSet.{ModeSet}
 use Rattle.sched_model.specs.Numbers.{below}
 use Rattle.sched_model.proofs.Lists.{length-below}
-use Rattle.sched_model.specs.declared.schedule.Schedule.{Schedule}
 use Rattle.task_body.specs.Body.{BodySeen}
-use Rattle.runtime_model.specs.Outcomes.{PlainEvent, Step}
+use Rattle.runtime_model.specs.Outcomes.{PlainEvent}
 use Rattle.runtime_model.specs.System.{System}
 use Rattle.runtime_model.specs.History.{history, now_after, step_of}
 use Rattle.runtime_model.specs.Script.{ScriptLine, Makes}
@@ -27,12 +25,12 @@ use Rattle.world_core.specs.declared.happened.Event.TheVariants.{Advance, Reques
 use Rattle.world_core.specs.declared.happened.Happened.{Happened}
 use Rattle.world_core.specs.Happened.{happened}
 use Rattle.world_core.specs.KeptWorlds.{MayHappen}
-use Rattle.world_core.specs.StandsFor.{HaveBodies, StandsFor, body_names, place_of_body, plain_event, system_with}
+use Rattle.world_core.specs.StandsFor.{body_names, place_of_body, plain_event}
 use Rattle.world_core.specs.WorldGoesOn.{GoesOn}
 use Rattle.world_core.specs.Worlds.{WorldSeen}
 use Rattle.world_core.proofs.OtherSteps.{cycle_count}
 use Rattle.replayer.specs.Running.{Does, IsAt, IsFront, IsRun, LineFits, MayDo, Run, Stops, Under, line_of_event, system}
-use Rattle.replayer.specs.Counting.{HasRoom, counts_of, is_send, is_start, sent_values, with_one}
+use Rattle.replayer.specs.Counting.{CountsOneMore, HasRoom, counts_of}
 use Rattle.replayer.specs.declared.counts.Counts.{Counts}
 use Rattle.replayer.proofs.Fronts.{fits_back, now_more}
 use Rattle.replayer.specs.Trace.{all_happened, line, lines_of, trace, done_line}
@@ -126,35 +124,6 @@ happened_count y es = length-map (reverse (history y es)) (happened y) ∙ lengt
     steps [] = refl
     steps (e ∷ es) = ap (λ (n : ℕ). suc n) (steps es)
 
--- how many of one more pass a test
-passed_more : (p : Happened → Bool) (hs : List Happened) (h : Happened) (b : Bool) → p h ≡ b → length (filter p hs) + (if b then 1 else 0) ≡ length (filter p (hs ++ h ∷ []))
-passed_more p hs h b e =
-    let whole = ap length (filter-append p hs (h ∷ [])) in
-    let parts = length-append (filter p hs) (filter p (h ∷ [])) in
-    let one : length (filter p (h ∷ [])) ≡ (if b then 1 else 0) = ap (λ (t : Bool). length (if t then h ∷ [] else [])) e ∙ by_test b in
-    omega (arith, whole, parts, one)
-  where
-    by_test : (b : Bool) → length {A = Happened} (if b then h ∷ [] else []) ≡ (if b then 1 else 0)
-    by_test true = refl
-    by_test false = refl
-
-abbrev counted : Counts → Counts
-counted c = c
-
--- one more is counted
-pub counts_more : (hs : List Happened) (h : Happened) → with_one (counts_of hs) h ≡ counts_of (hs ++ h ∷ [])
-counts_more hs h =
-    let c = counts_of hs in
-    let d = with_one c h in
-    let all = hs ++ h ∷ [] in
-    let values : d.values ≡ (counts_of all).values =
-    sym (ap (λ (xs : List ℤ). fold (λ sum x. sum +ℤ x) (pos 0) xs) (flat_map-append sent_values hs (h ∷ []) ∙ ap (λ (xs : List ℤ). flat_map sent_values hs ++ xs) (append-nil (sent_values h)))
-    ∙ fold-append (λ sum x. sum +ℤ x) (pos 0) (flat_map sent_values hs) (sent_values h)) in
-    ap (λ (n : ℕ). counted (record { events = n; sent = d.sent; started = d.started; values = d.values })) (sym (length-append hs (h ∷ [])))
-    ∙ ap (λ (n : ℕ). counted (record { events = length all; sent = n; started = d.started; values = d.values })) (passed_more is_send hs h (is_send h) refl)
-    ∙ ap (λ (n : ℕ). counted (record { events = length all; sent = length (filter is_send all); started = n; values = d.values })) (passed_more is_start hs h (is_start h) refl)
-    ∙ ap (λ (n : ℤ). counted (record { events = length all; sent = length (filter is_send all); started = length (filter is_start all); values = n })) values
-
 -- so many are few
 few_events : (r : Run) (es : List PlainEvent) (n : ℕ) → IsRun r → IsFront r es → n ≡ length es → n < 2 ^ 61
 few_events r es n is front e = omega (arith, e, is.few, ap length front.1, length-append front.0 es)
@@ -168,7 +137,7 @@ bodies_known see boxes x l are may =
 
 -- the event was performed, and its line put
 pub performs : (x z : Under) (e : Event) (answer : Happened) → GoesOn x.world x.bodies z.world z.bodies e answer → Passes x.held z.held (x.text ++ line x.names answer) z.text → z.names ≡ x.names
-    → z.counts ≡ with_one x.counts answer → (z.counts.events < 2 ^ 61 → HasRoom z.counts) → Does x (line_of_event e) z
+    → CountsOneMore x.counts answer z.counts → (z.counts.events < 2 ^ 61 → HasRoom z.counts) → Does x (line_of_event e) z
 performs x z e answer goes passes names counts room r es fs is at makes front =
     let y = system r in
     let ds = history y es in
@@ -177,8 +146,7 @@ performs x z e answer goes passes names counts room r es fs is at makes front =
     let g = goes r.set r.schedules r.made es is.rules is.right is.have (requests_fit r es is at.front) at.stands in
     let here : IsFront r (plain_event e ∷ es) = subst (IsFront r) made front in
     let counted : z.counts ≡ counts_of (all_happened y (plain_event e ∷ es)) =
-    counts ∙ ap (λ (c : Counts). with_one c answer) at.counts ∙ ap (with_one (counts_of (all_happened y es))) g.1
-    ∙ counts_more (all_happened y es) told ∙ ap counts_of (sym (happened_more y (plain_event e) es)) in
+    counts (all_happened y es) at.counts ∙ ap (λ (h : Happened). counts_of (all_happened y es ++ h ∷ [])) g.1 ∙ ap counts_of (sym (happened_more y (plain_event e) es)) in
     subst (λ (gs : List PlainEvent). IsAt r gs z) (sym made)
     (record {
       front = here;
@@ -205,20 +173,18 @@ stops x world bodies held e answer goes added r es fs is at makes front =
     (subst (λ (set : ModeSet). AddsFront x.held held (x.text ++ line set told)) at.names
     (subst (λ (h : Happened). AddsFront x.held held (x.text ++ line x.names h)) g.1 added))))
 
--- ---- answers
-
-pub on_ok : {A E P Q : Type 0} (answer : Result A E) → (P → Q) → OnOk answer P → OnOk answer Q
-on_ok (Ok x) f h = f h
-on_ok (Err e) f h = tt
-
-pub on_err : {A E P Q : Type 0} (answer : Result A E) → (P → Q) → OnErr answer P → OnErr answer Q
-on_err (Ok x) f h = tt
-on_err (Err e) f h = f h
-
-pub err_of : {A E P : Type 0} (answer : Result A E) → P → OnErr answer P
-err_of (Ok x) h = tt
-err_of (Err e) h = h
+-- ---- counts of faults
 
 -- a count that rose later rose
 pub later_rose : (first mid last : ℕ) → first ≤ mid → Rose mid last → Rose first last
 later_rose first mid last le rose = omega (arith, le, rose)
+
+-- a call that failed after others that wrote
+pub writes_later : {A E : Type 0} (r : Result A E) (first mid last flushes flushes_mid flushes_last : ℕ) → first ≤ mid → flushes_mid ≡ flushes →
+    Rose mid last → mid ≤ last → flushes_last ≡ flushes_mid → OnlyWrites r first last flushes flushes_last
+writes_later r first mid last flushes flushes_mid flushes_last le same rose counted same_later =
+    record { failed = whatever r (later_rose first mid last le rose); counted = omega (arith, le, counted); same_flushes = same_later ∙ same }
+  where
+    whatever : {A E P : Type 0} (r : Result A E) → P → OnErr r P
+    whatever (Ok x) h = tt
+    whatever (Err e) h = h

@@ -8,6 +8,7 @@ pub mod Decimals
 pub mod Joining
 pub mod NodeTexts
 pub mod LineTexts
+pub mod CountLemmas
 pub mod EventSteps
 pub mod LineSteps
 pub mod WholeScripts

@@ -1,14 +1,12 @@
 -- The events of one line of a replay
-use Rattle.std.proofs.Common.{◌≡◌, ℕ, suc, ◌+◌, ◌-◌, ◌<◌, ◌≤◌, Bool, true, false, List, [], ◌∷◌, ◌++◌, Option, refl, sym, ◌∙◌, ap, subst, arith, append_assoc, inl, inr}
-use Rattle.std.specs.Prelude.{replicate}
+use Rattle.std.proofs.Common.{◌≡◌, ℕ, suc, ◌+◌, ◌-◌, ◌<◌, ◌≤◌, Bool, true, false, List, ◌∷◌, ◌++◌, Option, refl, sym, ◌∙◌, ap, subst, arith, append_assoc, inl, inr}
+use Rattle.std.specs.Prelude.{IsErr, replicate, Result, Ok, Err}
 use Rattle.std.proofs.lemmas.Bool.{cases_lt}
-use Rattle.ttw_io.specs.Outside.{AddsFront}
 use Rattle.runtime_model.specs.Outcomes.{PlainEvent, advance}
-use Rattle.runtime_model.specs.Script.{ScriptLine, go, until_beacon, lose, beacon_next, Makes, Until}
+use Rattle.runtime_model.specs.Script.{ScriptLine, go, until_beacon, lose, beacon_next, Until}
 use Rattle.world_core.specs.NextBeacons.{TellsNext}
 use Rattle.world_core.specs.Worlds.{WorldSeen}
-use Rattle.replayer.specs.Running.{Does, IsAt, IsFront, IsRun, MayDo, Run, Stops, Under, system}
-use Rattle.replayer.specs.Trace.{trace}
+use Rattle.replayer.specs.Running.{Does, IsAt, IsDone, IsFront, IsRun, MayDo, Run, Stops, Under, system}
 use Rattle.replayer.proofs.EventSteps.{requests_fit}
 use Rattle.replayer.proofs.Fronts.{after_rest}
 use Rattle.replayer.proofs.Lengths.{beacons_come_soon}
@@ -154,10 +152,16 @@ advances_done x z m n most least does = subst (λ k. Does x (go k) z) (let e : m
 pub told_is : (w : WorldSeen) (b c : Bool) → TellsNext w b → b ≡ c → TellsNext w c
 told_is w b c tells e = subst (TellsNext w) e tells
 
--- ---- the same line
+-- ---- answers
 
-pub does_line : (x z : Under) (l m : ScriptLine) → m ≡ l → Does x l z → Does x m z
-does_line x z l m e does r es fs is at makes front = does r es fs is at (subst (λ k. Makes (system r) k es fs) e makes) front
+-- a line that was not done
+pub not_done : {A E : Type 0} (r : Result A E) (x : Under) (l : ScriptLine) (z : Under) → IsErr r → Stops x l z.held → IsDone r x l z
+not_done (Ok a) x l z fails stop = absurd (false_is_true fails)
+  where
+    false_is_true : false ≡ true → ⊥
+    false_is_true e = grind (arith, e)
+not_done (Err e) x l z fails stop = record { ok = tt; err = stop }
 
-pub stops_line : (x : Under) (held : Option (List ℕ)) (l m : ScriptLine) → m ≡ l → Stops x l held → Stops x m held
-stops_line x held l m e stop r es fs is at makes front = stop r es fs is at (subst (λ k. Makes (system r) k es fs) e makes) front
+-- the same line
+pub same_line : {A E : Type 0} (r : Result A E) (x z : Under) (l m : ScriptLine) → m ≡ l → IsDone r x l z → IsDone r x m z
+same_line r x z l m e done = subst (λ k. IsDone r x k z) (sym e) done

@@ -1,9 +1,14 @@
 -- The texts of lines, as they are put and as the definitions group them.
-use Rattle.std.proofs.Common.{◌≡◌, ℕ, List, [], ◌∷◌, ◌++◌, refl, sym, ap, ◌∙◌, append_assoc, append-nil}
+use Rattle.std.proofs.Common.{◌≡◌, ℕ, List, [], ◌∷◌, ◌++◌, sym, ap, ◌∙◌, append_assoc, append-nil}
 
 -- a number, words, and what follows
 pub line_of : (tick spelled words text whole : List ℕ) → tick ≡ spelled → text ≡ whole → tick ++ (words ++ text) ≡ spelled ++ (words ++ whole)
 line_of tick spelled words text whole e f = cc
+
+-- a word, a name
+pub named_line : (tick spelled word name : List ℕ) → tick ≡ spelled → tick ++ (word ++ (name ++ 10 ∷ [])) ≡ spelled ++ ((word ++ name) ++ 10 ∷ [])
+named_line tick spelled word name e =
+    ap (λ (t : List ℕ). t ++ (word ++ (name ++ 10 ∷ []))) e ∙ ap (λ (t : List ℕ). spelled ++ t) (sym (append_assoc word name (10 ∷ [])))
 
 -- a word, a node, a task
 pub task_line : (tick spelled word node node_name task task_name : List ℕ) → tick ≡ spelled → node ≡ node_name → task ≡ task_name →

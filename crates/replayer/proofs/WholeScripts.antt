@@ -1,6 +1,6 @@
 -- The lines of a whole script, one after the other
-use Rattle.std.proofs.Common.{◌≡◌, ℕ, suc, ◌+◌, ◌<◌, ◌≤◌, List, [], ◌∷◌, ◌++◌, length, map, take, drop, get_or, All, Option, refl, sym, ◌∙◌, ap, subst, arith, append_assoc, append-nil}
-use Rattle.std.specs.Prelude.{IfOk, slice_index_or}
+use Rattle.std.proofs.Common.{◌≡◌, ℕ, suc, ◌+◌, ◌<◌, ◌≤◌, List, [], ◌∷◌, ◌++◌, length, map, take, drop, get_or, Option, refl, sym, ◌∙◌, ap, subst, arith, append_assoc, append-nil}
+use Rattle.std.specs.Prelude.{slice_index_or}
 use Rattle.std.specs.Io.KnownBytes.{append_known}
 use Rattle.std.proofs.Math.Seq.{drop-cons}
 use Rattle.std.proofs.lemmas.List.{map-append, take-append-drop, take_all, take_more}
@@ -16,9 +16,7 @@ use Rattle.replay_script.specs.declared.line.Line.{Line}
 use Rattle.replay_script.specs.declared.line.Line.TheVariants as says
 use Rattle.replay_script.specs.Fitting.{FitsLine, FitsScript}
 use Rattle.runtime_model.specs.Outcomes.{PlainEvent}
-use Rattle.runtime_model.specs.Plans.{AreSchedules}
 use Rattle.runtime_model.specs.Script.{ScriptLine, LeadTo, Makes}
-use Rattle.runtime_model.specs.System.{System}
 use Rattle.runtime_model.proofs.RightSets.{kept_sets_have_right_plans, plan_count}
 use Rattle.world_core.specs.StandsFor.{system_with}
 use Rattle.world_core.specs.Worlds.{WorldSeen}
@@ -26,7 +24,7 @@ use Rattle.replayer.specs.Counting.{HasRoom, counts_of}
 use Rattle.replayer.specs.Replaying.{IsNew, IsNewWorld, IsCut, IsReplayed, OfReplay, SpelledBy}
 use Rattle.replayer.specs.Running.{Does, Follows, IsAt, IsFront, IsRun, LineFits, MayDo, Run, Stops, Under, system, under}
 use Rattle.replayer.specs.Scripts.{AsksFit, plain_line}
-use Rattle.replayer.specs.Trace.{all_happened, done_line, lines_of, trace}
+use Rattle.replayer.specs.Trace.{done_line, lines_of}
 use Rattle.replayer.specs.declared.counts.Counts.{Counts}
 use Rattle.replayer.specs.declared.tracer.Tracer.{Tracer}
 use Rattle.replayer.proofs.EventSteps.{happened_count}
@@ -52,14 +50,14 @@ module _ (set : ModeSet) (made : List BodySeen) (lines : List Line) (keeps : Kee
 
   -- what is made before the first event
   abbrev Begins : Tracer → Type 0
-  Begins t = (t ≡ record { names = set; buffer = []; counts = counts_of [] }) × HasRoom t.counts
+  Begins t = (t ≡ record { names = set; buffer = record { bytes = []; room = 65536 }; counts = counts_of [] }) × HasRoom t.counts
 
   begins : (world : WorldSeen) (t : Tracer) (schedules : List Schedule) (es : List PlainEvent) (held : Option (List ℕ)) → Begins t → IsNew set schedules world made → IsAt (run_of schedules es held) [] (under world made held t)
   begins world t schedules es held b new = record {
     front = (es, sym (append-nil es));
     stands = new.stands;
     names = ap (λ (t : Tracer). t.names) b.0;
-    written = subst (λ (text : List ℕ). Passes held held [] text) (sym (ap (λ (t : Tracer). t.buffer) b.0)) (passes_none held []);
+    written = subst (λ (text : List ℕ). Passes held held [] text) (sym (ap (λ (t : Tracer). t.buffer.bytes) b.0)) (passes_none held []);
     counts = ap (λ (t : Tracer). t.counts) b.0;
     room = b.1;
   }
@@ -114,7 +112,7 @@ module _ (set : ModeSet) (made : List BodySeen) (lines : List Line) (keeps : Kee
   asks_fit schedules (says.Restart node ∷ ls) fits = asks_fit schedules ls (λ k l. fits (suc k) (omega (arith, l)))
 
   -- the events that the script spells
-  spelled_by : (world : WorldSeen) (schedules : List Schedule) → IsNew set schedules world made → (es : List PlainEvent) × SpelledBy set schedules made lines es
+  pub spelled_by : (world : WorldSeen) (schedules : List Schedule) → IsNew set schedules world made → (es : List PlainEvent) × SpelledBy set schedules made lines es
   spelled_by world schedules new =
       let y = system_with set schedules made in
       let s = scripts_spell_once y ((kept_sets_have_right_plans set schedules keeps new.right).system y.answers) (map plain_line lines) (asks_fit schedules lines (λ k l. fit.lines k (says.Go 0) l)) in
@@ -168,7 +166,7 @@ module _ (set : ModeSet) (made : List BodySeen) (lines : List Line) (keeps : Kee
   events_counted schedules es old z at = ap (λ (c : Counts). c.events) at.counts ∙ happened_count (system_with set schedules made) es
 
   pub all_written : (world now : WorldSeen) (bodies : List BodySeen) (old held new_held : Option (List ℕ)) (t u : Tracer) (counts : Counts) (k : ℕ) → Begins t → length lines ≤ k → Follows (under world made old t) (so_far k) (under now bodies held u)
-      → new_held ≡ append_known held (u.buffer ++ done_line u.counts.events) → counts ≡ u.counts → OfReplay set lines world made (IsReplayed set made old new_held counts now bodies)
+      → new_held ≡ append_known held (u.buffer.bytes ++ done_line u.counts.events) → counts ≡ u.counts → OfReplay set lines world made (IsReplayed set made old new_held counts now bodies)
   all_written world now bodies old held new_held t u counts k b l follows added same schedules es new spelled =
       let y = system_with set schedules made in
       let at = stands_last world old t (under now bodies held u) k b l follows schedules es new spelled in
@@ -176,17 +174,17 @@ module _ (set : ModeSet) (made : List BodySeen) (lines : List Line) (keeps : Kee
       let done = ap done_line (events_counted schedules es old (under now bodies held u) at) in
       record {
         text = added
-            ∙ ap (λ (h : Option (List ℕ)). append_known h (u.buffer ++ done_line u.counts.events)) p.2
-            ∙ append_known-append_known old p.0 (u.buffer ++ done_line u.counts.events)
-            ∙ ap (append_known old) (sym (append_assoc p.0 u.buffer (done_line u.counts.events)) ∙ ap (λ (xs : List ℕ). xs ++ done_line u.counts.events) (sym p.1) ∙ ap (λ (xs : List ℕ). lines_of set y es ++ xs) done);
+            ∙ ap (λ (h : Option (List ℕ)). append_known h (u.buffer.bytes ++ done_line u.counts.events)) p.2
+            ∙ append_known-append_known old p.0 (u.buffer.bytes ++ done_line u.counts.events)
+            ∙ ap (append_known old) (sym (append_assoc p.0 u.buffer.bytes (done_line u.counts.events)) ∙ ap (λ (xs : List ℕ). xs ++ done_line u.counts.events) (sym p.1) ∙ ap (λ (xs : List ℕ). lines_of set y es ++ xs) done);
         counted = same ∙ at.counts;
         stands = at.stands;
       }
 
   pub end_cut : (world now : WorldSeen) (bodies : List BodySeen) (old held new_held : Option (List ℕ)) (t u : Tracer) (k : ℕ) → Begins t → length lines ≤ k → Follows (under world made old t) (so_far k) (under now bodies held u)
-      → AddsFront held new_held (u.buffer ++ done_line u.counts.events) → OfReplay set lines world made (IsCut set made old new_held)
+      → AddsFront held new_held (u.buffer.bytes ++ done_line u.counts.events) → OfReplay set lines world made (IsCut set made old new_held)
   end_cut world now bodies old held new_held t u k b l follows added schedules es new spelled =
       let y = system_with set schedules made in
       let at = stands_last world old t (under now bodies held u) k b l follows schedules es new spelled in
       subst (λ (text : List ℕ). AddsFront old new_held (lines_of set y es ++ text)) (ap done_line (events_counted schedules es old (under now bodies held u) at))
-      (Passes-AddsFront old held new_held (lines_of set y es) u.buffer (done_line u.counts.events) at.written added)
+      (Passes-AddsFront old held new_held (lines_of set y es) u.buffer.bytes (done_line u.counts.events) at.written added)

@@ -1,8 +1,8 @@
 -- What is counted of a replay
-use Rattle.std.specs.Prelude.{ℕ, ◌+◌, ◌*◌, ◌^◌, ◌<◌, ◌≤◌, Bool, true, false, List, [], length, filter, ℤ, pos, neg_ℤ, ◌+ℤ◌, ◌≤ℤ◌, if◌then◌else◌}
+use Rattle.std.specs.Prelude.{◌≡◌, ℕ, ◌*◌, ◌^◌, ◌<◌, ◌≤◌, Bool, true, false, List, [], ◌∷◌, ◌++◌, length, filter, ℤ, pos, neg_ℤ, ◌+ℤ◌, ◌≤ℤ◌}
 use Rattle.std.specs.List.{flat_map, fold}
 use Rattle.world_core.specs.declared.happened.Happened.{Happened}
-use Rattle.world_core.specs.declared.happened.Happened.TheVariants.{Beacon, Sent, Silent, Started, Off, Ended, Void, Requested, Restarted}
+use Rattle.world_core.specs.declared.happened.Happened.TheVariants.{Sent, Started}
 use Rattle.replayer.specs.declared.counts.Counts.{Counts}
 
 -- a node sent
@@ -26,16 +26,11 @@ sum_from start xs = fold (λ sum x. sum +ℤ x) start xs
 
 -- how many events there were, how many of them sent, how many started a task, and the sum of all values sent
 abbrev pub counts_of : List Happened → Counts
-counts_of hs = record { events = length hs; sent = length (filter is_send hs); started = length (filter is_start hs); values = fold (λ sum x. sum +ℤ x) (pos 0) (flat_map sent_values hs) }
+counts_of hs = record { events = length hs; sent = length (filter is_send hs); started = length (filter is_start hs); values = sum_from (pos 0) (flat_map sent_values hs) }
 
--- what is counted with one event more
-abbrev pub with_one : Counts → Happened → Counts
-with_one c h = record {
-  events = c.events + 1;
-  sent = c.sent + (if is_send h then 1 else 0);
-  started = c.started + (if is_start h then 1 else 0);
-  values = sum_from c.values (sent_values h);
-}
+-- what was counted of some events is now what is counted of them and one more
+abbrev pub CountsOneMore : (before : Counts) → Happened → (now : Counts) → Type 0
+CountsOneMore before h now = (hs : List Happened) → before ≡ counts_of hs → now ≡ counts_of (hs ++ h ∷ [])
 
 -- a sum of four numbers of 64 bits for each event
 pub record IsSumFor (events : ℕ) (sum : ℤ) : Type 0 where

@@ -9,7 +9,6 @@ use Rattle.replay_script.specs.declared.line.Line.{Line}
 use Rattle.runtime_model.specs.Outcomes.{PlainEvent}
 use Rattle.runtime_model.specs.Plans.{AreSchedules}
 use Rattle.runtime_model.specs.Script.{Spells}
-use Rattle.runtime_model.specs.System.{System}
 use Rattle.world_core.specs.StandsFor.{StandsFor, HaveBodies, system_with}
 use Rattle.world_core.specs.Worlds.{WorldSeen}
 use Rattle.replayer.specs.Scripts.{plain_line}
@@ -44,3 +43,9 @@ pub record IsReplayed (set : ModeSet) (bodies : List BodySeen) (old new : Option
 -- a prefix of the trace was added
 abbrev pub IsCut : ModeSet → List BodySeen → Option (List ℕ) → Option (List ℕ) → List Schedule → List PlainEvent → Type 0
 IsCut set bodies old new schedules es = AddsFront old new (trace set (system_with set schedules bodies) es)
+
+-- nothing was done: the sink, the world and the bodies are as they were
+pub record IsUntouched (old new : Option (List ℕ)) (was world : WorldSeen) (made bodies : List BodySeen) : Type 0 where
+  pub text : new ≡ old
+  pub world_kept : world ≡ was
+  pub bodies_kept : bodies ≡ made

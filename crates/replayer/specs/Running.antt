@@ -1,5 +1,5 @@
 -- A replay under way: what its private calls keep
-use Rattle.std.specs.Prelude.{◌≡◌, ◌≢◌, ℕ, ◌<◌, ◌≤◌, List, [], ◌++◌, length, Option}
+use Rattle.std.specs.Prelude.{◌≡◌, ◌≢◌, ℕ, ◌<◌, ◌≤◌, List, [], ◌++◌, length, Option, Result, OnOk, OnErr}
 use Rattle.ttw_io.specs.Buffering.{Passes}
 use Rattle.ttw_io.specs.Outside.{AddsFront}
 use Rattle.app_graph.specs.declared.mode_set.ModeSet.{ModeSet}
@@ -61,7 +61,7 @@ pub record Under : Type 0 where
 
 -- a replay with this world, these bodies, this held by the sink and this tracer
 abbrev pub under : WorldSeen → List BodySeen → Option (List ℕ) → Tracer → Under
-under world bodies held t = record { world = world; bodies = bodies; held = held; names = t.names; text = t.buffer; counts = t.counts }
+under world bodies held t = record { world = world; bodies = bodies; held = held; names = t.names; text = t.buffer.bytes; counts = t.counts }
 
 -- the replay stands after these events
 pub record IsAt (r : Run) (es : List PlainEvent) (x : Under) : Type 0 where
@@ -107,6 +107,11 @@ Does x line z = (r : Run) (es fs : List PlainEvent) → IsRun r → IsAt r es x 
 abbrev pub Stops : Under → ScriptLine → Option (List ℕ) → Type 0
 Stops x line held =
     (r : Run) (es fs : List PlainEvent) → IsRun r → IsAt r es x → Makes (system r) line es fs → IsFront r fs → AddsFront r.held held (trace r.set (system r) r.events)
+
+-- the line was done; after a failure the sink holds a prefix of the trace
+pub record IsDone {A E : Type 0} (result : Result A E) (x : Under) (line : ScriptLine) (z : Under) : Type 0 where
+  pub ok : OnOk result (Does x line z)
+  pub err : OnErr result (Stops x line z.held)
 
 -- every replay that stood at x before its first event, and whose first events these lines spell, stands at z after them
 abbrev pub Follows : Under → List ScriptLine → Under → Type 0

@@ -30,7 +30,7 @@ AsksFit y (until_beacon ∷ ls) = AsksFit y ls
 AsksFit y (lose bits ∷ ls) = AsksFit y ls
 AsksFit y (restarts_node v ∷ ls) = AsksFit y ls
 
--- every script spells exactly one list of events: each cycle has a beacon, so every wait for one ends
+-- with right plans, a script whose requests name modes spells exactly one list of events: each cycle has a beacon, so every wait for one ends
 abbrev pub ScriptsSpellOnce : Type 0
 ScriptsSpellOnce = (y : System) → PlansAreRight y → (ls : List ScriptLine) → AsksFit y ls →
     (es : List PlainEvent) × Spells y ls es × ((fs : List PlainEvent) → Spells y ls fs → fs ≡ es)

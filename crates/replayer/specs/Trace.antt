@@ -4,7 +4,6 @@ use Rattle.std.specs.List.{flat_map}
 use Rattle.ttw_text.specs.Numbers.{spelled, signed_spelled}
 use Rattle.app_graph.specs.declared.mode_set.ModeSet.{ModeSet}
 use Rattle.beacon_codec.specs.Beacon.{flags_of}
-use Rattle.node_core.specs.declared.packet.Packet.{Packet}
 use Rattle.sched_model.specs.Numbers.{below}
 use Rattle.sched_model.specs.PlainMode.{mode_at}
 use Rattle.runtime_model.specs.Outcomes.{PlainEvent}
@@ -50,10 +49,6 @@ nodes_text set bits = flat_map (λ v. 32 ∷ node_name set v) (filter (in_set bi
 -- the values of a packet
 abbrev pub values_text : List ℤ → List ℕ
 values_text values = flat_map (λ x. 32 ∷ signed_spelled x) values
-
--- a packet, before the nodes that took it
-abbrev pub packet_words : ModeSet → ℕ → Packet → List ℕ
-packet_words set node packet = codes " send " ++ (node_name set node ++ 32 ∷ (message_name set packet.message ++ (values_text packet.values ++ codes " taken")))
 
 -- an input: a number, or `-` where it is missing
 abbrev pub input_text : Option ℤ → List ℕ

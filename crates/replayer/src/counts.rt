@@ -2,7 +2,7 @@
 
 ghost use Rattle.std.specs.Prelude.{◌≡◌, ◌+◌, ◌<◌, ◌≤◌, ◌^◌, ◌++◌, ◌∷◌, [], List, pos, ◌+ℤ◌, ◌≤ℤ◌};
 ghost use Rattle.world_core.specs.declared.happened.Happened.{Happened};
-ghost use Rattle.replayer.specs.Counting.{HasRoom, IsSumFor, counts_of, sum_from, with_one};
+ghost use Rattle.replayer.specs.Counting.{CountsOneMore, HasRoom, IsSumFor, counts_of, sum_from};
 
 use node_core::Values;
 use world_core::Happened;
@@ -56,7 +56,7 @@ impl Counts {
     /// Counts one event more.
     pub(crate) fn add(&mut self, happened: &Happened)
         requires { HasRoom self.old }
-        ensures counted { self.new ≡ with_one self.old happened.now }
+        ensures counted { CountsOneMore self.old happened.now self.new }
         ensures room { self.new.events < 2 ^ 61 → HasRoom self.new }
     {
         self.events += 1;

@@ -2,7 +2,7 @@
 
 ghost use Rattle.replayer.specs.Scripts.{BeaconsComeSoon, ScriptsAreShort, ScriptsSpellOnce};
 
-/// Every script spells exactly one list of events.
+/// With right plans, a script whose requests name modes spells exactly one list of events.
 pub fn scripts_spell_once()
     ensures { ScriptsSpellOnce }
 {}

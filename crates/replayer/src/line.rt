@@ -1,14 +1,13 @@
 //! The line of what happened.
 
-ghost use Rattle.std.specs.Prelude.{◌≡◌, ◌≤◌, ◌++◌, ◌∷◌, [], OnErr, OnOk, if◌then◌else◌};
-ghost use Rattle.ttw_io.specs.Buffering.{Passes};
-ghost use Rattle.ttw_io.specs.Outside.{AddsFront, Rose};
+ghost use Rattle.std.specs.Prelude.{◌≡◌, ◌++◌, ◌∷◌, [], codes, if◌then◌else◌};
+ghost use Rattle.ttw_io.specs.Buffering.{HasPut, OnlyWrites};
 ghost use Rattle.ttw_text.specs.Numbers.{signed_spelled, spelled};
-ghost use Rattle.replayer.specs.Trace.{done_line, input_text, inputs_text, line, node_name, nodes_text, packet_words, task_text, values_text};
-ghost use Rattle.beacon_codec.specs.Beacon.{flags_of};
+ghost use Rattle.replayer.specs.Trace.{done_line, input_text, inputs_text, line, message_name, node_name};
+ghost use Rattle.replayer.specs.Trace.{nodes_text, task_text, values_text};
 
 use crate::names::Names;
-use beacon_codec::Beacon;
+use beacon_codec::{Beacon, flags};
 use itoa::Buffer as Digits;
 use node_core::{Inputs, Packet, Values};
 use tick_num::Time;
@@ -29,19 +28,6 @@ fn signed(digits: &mut Digits, n: i64) -> &[u8]
     digits.format(n).as_bytes()
 }
 
-/// The flags of a beacon as a number.
-fn flags(beacon: Beacon) -> u64
-    ensures { result ≡ flags_of beacon }
-{
-    if beacon.trigger {
-        1
-    } else if beacon.opening {
-        2
-    } else {
-        0
-    }
-}
-
 /// Puts the name of a node behind a blank, where the node is in a set.
 fn put_node<S: Sink>(
     names: &Names,
@@ -50,13 +36,10 @@ fn put_node<S: Sink>(
     buffer: &mut Buffer,
     out: &mut S,
 ) -> Result<(), Failed>
-    ensures ok { OnOk result (Passes (S.held out.old) (S.held out.new)
-        (buffer.old ++ (if is_in then 32 ∷ node_name names.now node else [])) buffer.new) }
-    ensures err { OnErr result (AddsFront (S.held out.old) (S.held out.new)
-        (buffer.old ++ (if is_in then 32 ∷ node_name names.now node else []))) }
-    ensures counted { S.faults out.old ≤ S.faults out.new }
-    ensures same_flushes { S.flushes out.new ≡ S.flushes out.old }
-    ensures failed { OnErr result (Rose (S.faults out.old) (S.faults out.new)) }
+    ensures put { HasPut result (S.held out.old) (S.held out.new) buffer.old buffer.new
+        (if is_in then 32 ∷ node_name names.now node else []) }
+    ensures sink { OnlyWrites result (S.faults out.old) (S.faults out.new)
+        (S.flushes out.old) (S.flushes out.new) }
 {
     if !is_in {
         return Ok(());
@@ -71,13 +54,10 @@ fn put_nodes<S: Sink>(
     buffer: &mut Buffer,
     out: &mut S,
 ) -> Result<(), Failed>
-    ensures ok { OnOk result (Passes (S.held out.old) (S.held out.new)
-        (buffer.old ++ nodes_text names.now nodes) buffer.new) }
-    ensures err { OnErr result (AddsFront (S.held out.old) (S.held out.new)
-        (buffer.old ++ nodes_text names.now nodes)) }
-    ensures counted { S.faults out.old ≤ S.faults out.new }
-    ensures same_flushes { S.flushes out.new ≡ S.flushes out.old }
-    ensures failed { OnErr result (Rose (S.faults out.old) (S.faults out.new)) }
+    ensures put { HasPut result (S.held out.old) (S.held out.new) buffer.old buffer.new
+        (nodes_text names.now nodes) }
+    ensures sink { OnlyWrites result (S.faults out.old) (S.faults out.new)
+        (S.flushes out.old) (S.flushes out.new) }
 {
     // The bits of the nodes that are still to come.
     let mut left = nodes;
@@ -90,14 +70,10 @@ fn put_nodes<S: Sink>(
 
 /// Puts the values of a packet, each behind a blank.
 fn put_values<S: Sink>(values: &Values, buffer: &mut Buffer, out: &mut S) -> Result<(), Failed>
-    ensures ok { OnOk result
-        (Passes (S.held out.old) (S.held out.new)
-        (buffer.old ++ values_text values.now) buffer.new) }
-    ensures err { OnErr result
-        (AddsFront (S.held out.old) (S.held out.new) (buffer.old ++ values_text values.now)) }
-    ensures counted { S.faults out.old ≤ S.faults out.new }
-    ensures same_flushes { S.flushes out.new ≡ S.flushes out.old }
-    ensures failed { OnErr result (Rose (S.faults out.old) (S.faults out.new)) }
+    ensures put { HasPut result (S.held out.old) (S.held out.new) buffer.old buffer.new
+        (values_text values.now) }
+    ensures sink { OnlyWrites result (S.faults out.old) (S.faults out.new)
+        (S.flushes out.old) (S.flushes out.new) }
 {
     for value in values.as_slice() {
         let mut digits = Digits::new();
@@ -118,14 +94,10 @@ fn input_bytes<'a>(input: &Option<i64>, digits: &'a mut Digits) -> &'a [u8]
 
 /// Puts the inputs of a start, each behind a blank.
 fn put_inputs<S: Sink>(inputs: &Inputs, buffer: &mut Buffer, out: &mut S) -> Result<(), Failed>
-    ensures ok { OnOk result
-        (Passes (S.held out.old) (S.held out.new)
-        (buffer.old ++ inputs_text inputs.now) buffer.new) }
-    ensures err { OnErr result
-        (AddsFront (S.held out.old) (S.held out.new) (buffer.old ++ inputs_text inputs.now)) }
-    ensures counted { S.faults out.old ≤ S.faults out.new }
-    ensures same_flushes { S.flushes out.new ≡ S.flushes out.old }
-    ensures failed { OnErr result (Rose (S.faults out.old) (S.faults out.new)) }
+    ensures put { HasPut result (S.held out.old) (S.held out.new) buffer.old buffer.new
+        (inputs_text inputs.now) }
+    ensures sink { OnlyWrites result (S.faults out.old) (S.faults out.new)
+        (S.flushes out.old) (S.flushes out.new) }
 {
     for input in inputs.as_slice() {
         let mut digits = Digits::new();
@@ -142,13 +114,10 @@ fn put_named<S: Sink>(
     buffer: &mut Buffer,
     out: &mut S,
 ) -> Result<(), Failed>
-    ensures ok { OnOk result (Passes (S.held out.old) (S.held out.new)
-        (buffer.old ++ (signed_spelled at ++ ((word.now ++ name.now) ++ 10 ∷ []))) buffer.new) }
-    ensures err { OnErr result (AddsFront (S.held out.old) (S.held out.new)
-        (buffer.old ++ (signed_spelled at ++ ((word.now ++ name.now) ++ 10 ∷ [])))) }
-    ensures counted { S.faults out.old ≤ S.faults out.new }
-    ensures same_flushes { S.flushes out.new ≡ S.flushes out.old }
-    ensures failed { OnErr result (Rose (S.faults out.old) (S.faults out.new)) }
+    ensures put { HasPut result (S.held out.old) (S.held out.new) buffer.old buffer.new
+        (signed_spelled at ++ ((word.now ++ name.now) ++ 10 ∷ [])) }
+    ensures sink { OnlyWrites result (S.faults out.old) (S.faults out.new)
+        (S.flushes out.old) (S.flushes out.new) }
 {
     let mut tick = Digits::new();
     buffer.put_all(&[signed(&mut tick, at), word, name, b"\n"], out)
@@ -164,15 +133,10 @@ fn put_task<S: Sink>(
     buffer: &mut Buffer,
     out: &mut S,
 ) -> Result<(), Failed>
-    ensures ok { OnOk result (Passes (S.held out.old) (S.held out.new)
-        (buffer.old ++ (signed_spelled at
-        ++ ((word.now ++ task_text names.now node task) ++ 10 ∷ []))) buffer.new) }
-    ensures err { OnErr result (AddsFront (S.held out.old) (S.held out.new)
-        (buffer.old ++ (signed_spelled at
-        ++ ((word.now ++ task_text names.now node task) ++ 10 ∷ [])))) }
-    ensures counted { S.faults out.old ≤ S.faults out.new }
-    ensures same_flushes { S.flushes out.new ≡ S.flushes out.old }
-    ensures failed { OnErr result (Rose (S.faults out.old) (S.faults out.new)) }
+    ensures put { HasPut result (S.held out.old) (S.held out.new) buffer.old buffer.new
+        (signed_spelled at ++ ((word.now ++ task_text names.now node task) ++ 10 ∷ [])) }
+    ensures sink { OnlyWrites result (S.faults out.old) (S.faults out.new)
+        (S.flushes out.old) (S.flushes out.new) }
 {
     let mut tick = Digits::new();
     let node = names.node(node as usize);
@@ -193,13 +157,10 @@ fn put_ended<S: Sink>(
     buffer: &mut Buffer,
     out: &mut S,
 ) -> Result<(), Failed>
-    ensures ok { OnOk result (Passes (S.held out.old) (S.held out.new)
-        (buffer.old ++ line names.now (Happened.Ended at node task value)) buffer.new) }
-    ensures err { OnErr result (AddsFront (S.held out.old) (S.held out.new)
-        (buffer.old ++ line names.now (Happened.Ended at node task value))) }
-    ensures counted { S.faults out.old ≤ S.faults out.new }
-    ensures same_flushes { S.flushes out.new ≡ S.flushes out.old }
-    ensures failed { OnErr result (Rose (S.faults out.old) (S.faults out.new)) }
+    ensures put { HasPut result (S.held out.old) (S.held out.new) buffer.old buffer.new
+        (line names.now (Happened.Ended at node task value)) }
+    ensures sink { OnlyWrites result (S.faults out.old) (S.faults out.new)
+        (S.flushes out.old) (S.flushes out.new) }
 {
     let mut tick = Digits::new();
     let mut digits = Digits::new();
@@ -231,13 +192,10 @@ fn put_started<S: Sink>(
     buffer: &mut Buffer,
     out: &mut S,
 ) -> Result<(), Failed>
-    ensures ok { OnOk result (Passes (S.held out.old) (S.held out.new)
-        (buffer.old ++ line names.now (Happened.Started at node task inputs.now)) buffer.new) }
-    ensures err { OnErr result (AddsFront (S.held out.old) (S.held out.new)
-        (buffer.old ++ line names.now (Happened.Started at node task inputs.now))) }
-    ensures counted { S.faults out.old ≤ S.faults out.new }
-    ensures same_flushes { S.flushes out.new ≡ S.flushes out.old }
-    ensures failed { OnErr result (Rose (S.faults out.old) (S.faults out.new)) }
+    ensures put { HasPut result (S.held out.old) (S.held out.new) buffer.old buffer.new
+        (line names.now (Happened.Started at node task inputs.now)) }
+    ensures sink { OnlyWrites result (S.faults out.old) (S.faults out.new)
+        (S.flushes out.old) (S.flushes out.new) }
 {
     let mut tick = Digits::new();
     let node = names.node(node as usize);
@@ -256,13 +214,12 @@ fn put_packet<S: Sink>(
     buffer: &mut Buffer,
     out: &mut S,
 ) -> Result<(), Failed>
-    ensures ok { OnOk result (Passes (S.held out.old) (S.held out.new)
-        (buffer.old ++ (signed_spelled at ++ packet_words names.now node packet.now)) buffer.new) }
-    ensures err { OnErr result (AddsFront (S.held out.old) (S.held out.new)
-        (buffer.old ++ (signed_spelled at ++ packet_words names.now node packet.now))) }
-    ensures counted { S.faults out.old ≤ S.faults out.new }
-    ensures same_flushes { S.flushes out.new ≡ S.flushes out.old }
-    ensures failed { OnErr result (Rose (S.faults out.old) (S.faults out.new)) }
+    ensures put { HasPut result (S.held out.old) (S.held out.new) buffer.old buffer.new
+        (signed_spelled at ++ (codes " send " ++ (node_name names.now node
+        ++ 32 ∷ (message_name names.now packet.now.message
+        ++ (values_text packet.now.values ++ codes " taken"))))) }
+    ensures sink { OnlyWrites result (S.faults out.old) (S.faults out.new)
+        (S.flushes out.old) (S.flushes out.new) }
 {
     let mut tick = Digits::new();
     let node = names.node(node as usize);
@@ -285,13 +242,10 @@ fn put_sent<S: Sink>(
     buffer: &mut Buffer,
     out: &mut S,
 ) -> Result<(), Failed>
-    ensures ok { OnOk result (Passes (S.held out.old) (S.held out.new)
-        (buffer.old ++ line names.now (Happened.Sent at node packet.now taken)) buffer.new) }
-    ensures err { OnErr result (AddsFront (S.held out.old) (S.held out.new)
-        (buffer.old ++ line names.now (Happened.Sent at node packet.now taken))) }
-    ensures counted { S.faults out.old ≤ S.faults out.new }
-    ensures same_flushes { S.flushes out.new ≡ S.flushes out.old }
-    ensures failed { OnErr result (Rose (S.faults out.old) (S.faults out.new)) }
+    ensures put { HasPut result (S.held out.old) (S.held out.new) buffer.old buffer.new
+        (line names.now (Happened.Sent at node packet.now taken)) }
+    ensures sink { OnlyWrites result (S.faults out.old) (S.faults out.new)
+        (S.flushes out.old) (S.flushes out.new) }
 {
     put_packet(names, at, node, packet, buffer, out)?;
     put_nodes(names, taken, buffer, out)?;
@@ -307,13 +261,10 @@ fn put_beacon<S: Sink>(
     buffer: &mut Buffer,
     out: &mut S,
 ) -> Result<(), Failed>
-    ensures ok { OnOk result (Passes (S.held out.old) (S.held out.new)
-        (buffer.old ++ line names.now (Happened.Beacon at beacon heard)) buffer.new) }
-    ensures err { OnErr result (AddsFront (S.held out.old) (S.held out.new)
-        (buffer.old ++ line names.now (Happened.Beacon at beacon heard))) }
-    ensures counted { S.faults out.old ≤ S.faults out.new }
-    ensures same_flushes { S.flushes out.new ≡ S.flushes out.old }
-    ensures failed { OnErr result (Rose (S.faults out.old) (S.faults out.new)) }
+    ensures put { HasPut result (S.held out.old) (S.held out.new) buffer.old buffer.new
+        (line names.now (Happened.Beacon at beacon heard)) }
+    ensures sink { OnlyWrites result (S.faults out.old) (S.faults out.new)
+        (S.flushes out.old) (S.flushes out.new) }
 {
     let mut tick = Digits::new();
     let mut round = Digits::new();
@@ -321,7 +272,7 @@ fn put_beacon<S: Sink>(
     let tick = signed(&mut tick, at);
     let round = number(&mut round, u64::from(beacon.round));
     let mode = names.mode(usize::from(beacon.mode));
-    let flags = number(&mut digits, flags(beacon));
+    let flags = number(&mut digits, u64::from(flags(beacon)));
     buffer.put_all(
         &[tick, b" beacon ", round, b" ", mode, b" ", flags, b" heard"],
         out,
@@ -337,13 +288,10 @@ pub(crate) fn put_line<S: Sink>(
     buffer: &mut Buffer,
     out: &mut S,
 ) -> Result<(), Failed>
-    ensures ok { OnOk result (Passes (S.held out.old) (S.held out.new)
-        (buffer.old ++ line names.now happened.now) buffer.new) }
-    ensures err { OnErr result (AddsFront (S.held out.old) (S.held out.new)
-        (buffer.old ++ line names.now happened.now)) }
-    ensures counted { S.faults out.old ≤ S.faults out.new }
-    ensures same_flushes { S.flushes out.new ≡ S.flushes out.old }
-    ensures failed { OnErr result (Rose (S.faults out.old) (S.faults out.new)) }
+    ensures put { HasPut result (S.held out.old) (S.held out.new) buffer.old buffer.new
+        (line names.now happened.now) }
+    ensures sink { OnlyWrites result (S.faults out.old) (S.faults out.new)
+        (S.flushes out.old) (S.flushes out.new) }
 {
     match happened {
         Happened::Beacon { at, beacon, heard } => put_beacon(
@@ -399,13 +347,10 @@ pub(crate) fn put_line<S: Sink>(
 
 /// Puts the last line, behind so many others.
 pub(crate) fn put_done<S: Sink>(events: u64, buffer: &mut Buffer, out: &mut S) -> Result<(), Failed>
-    ensures ok { OnOk result (Passes (S.held out.old) (S.held out.new)
-        (buffer.old ++ done_line events) buffer.new) }
-    ensures err { OnErr result (AddsFront (S.held out.old) (S.held out.new)
-        (buffer.old ++ done_line events)) }
-    ensures counted { S.faults out.old ≤ S.faults out.new }
-    ensures same_flushes { S.flushes out.new ≡ S.flushes out.old }
-    ensures failed { OnErr result (Rose (S.faults out.old) (S.faults out.new)) }
+    ensures put { HasPut result (S.held out.old) (S.held out.new) buffer.old buffer.new
+        (done_line events) }
+    ensures sink { OnlyWrites result (S.faults out.old) (S.faults out.new)
+        (S.flushes out.old) (S.flushes out.new) }
 {
     let mut digits = Digits::new();
     buffer.put_all(&[b"done ", number(&mut digits, events), b"\n"], out)

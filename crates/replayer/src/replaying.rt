@@ -1,16 +1,16 @@
 //! Replays of scripts.
 
-ghost use Rattle.std.specs.Prelude.{◌≡◌, ◌≤◌, ℕ, List, IfOk, IsErrOf, OnErr, OnOk, map};
+ghost use Rattle.std.specs.Prelude.{◌≡◌, ◌≤◌, IfOk, IsErrOf, map};
 ghost use Rattle.app_graph.specs.Validation.{KeepsRules};
 ghost use Rattle.replay_script.specs.Fitting.{FitsScript};
+ghost use Rattle.ttw_io.specs.Buffering.{OnlyWrites};
 ghost use Rattle.ttw_io.specs.Outside.{Rose};
 ghost use Rattle.runtime_model.specs.Script.{until_beacon, go};
-ghost use Rattle.replayer.specs.Replaying.{IsCut, IsNewWorld, IsReplayed, OfReplay};
-ghost use Rattle.replayer.specs.Running.{Does, MayDo, Stops, line_of_event, under};
+ghost use Rattle.replayer.specs.Replaying.{IsCut, IsNewWorld, IsReplayed, IsUntouched, OfReplay};
+ghost use Rattle.replayer.specs.Running.{IsDone, MayDo, line_of_event, under};
 ghost use Rattle.replayer.specs.Scripts.{plain_line};
 
 use crate::counts::Counts;
-use crate::laws::{beacons_come_soon, scripts_are_short, scripts_spell_once};
 use crate::tracer::Tracer;
 use app_graph::ModeSet;
 use replay_script::Line;
@@ -24,7 +24,8 @@ use world_core::{Event, World};
 pub enum ReplayEnd {
     /// A write failed: a prefix of the trace was written.
     WriteFault,
-    /// Memory ran out before the first event: nothing was written.
+    /// Memory ran out before the first event: nothing was written, and the world and the bodies are
+    /// as they were.
     Memory,
 }
 
@@ -58,18 +59,17 @@ fn perform<S: Sink>(
     tracer: &mut Tracer<'_>,
     out: &mut S,
 ) -> Result<(), Failed>
-    requires { MayDo (under world.old (map seen bodies.old.items) (S.held out.old) tracer.old) (line_of_event event) }
+    requires { MayDo
+        (under world.old (map seen bodies.old.items) (S.held out.old) tracer.old)
+        (line_of_event event) }
 
-    ensures ok { OnOk result (Does
-        (under world.old (map seen bodies.old.items) (S.held out.old) tracer.old) (line_of_event event)
-        (under world.new (map seen bodies.new.items) (S.held out.new) tracer.new)) }
-    ensures err { OnErr result (Stops
-        (under world.old (map seen bodies.old.items) (S.held out.old) tracer.old) (line_of_event event)
-        (S.held out.new)) }
+    ensures done { IsDone result
+        (under world.old (map seen bodies.old.items) (S.held out.old) tracer.old)
+        (line_of_event event)
+        (under world.new (map seen bodies.new.items) (S.held out.new) tracer.new) }
 
-    ensures failed { OnErr result (Rose (S.faults out.old) (S.faults out.new)) }
-    ensures counted { S.faults out.old ≤ S.faults out.new }
-    ensures same_flushes { S.flushes out.new ≡ S.flushes out.old }
+    ensures sink { OnlyWrites result (S.faults out.old) (S.faults out.new)
+        (S.flushes out.old) (S.flushes out.new) }
 {
     let happened = world.step(event, bodies);
     tracer.tell(&happened, out)
@@ -83,18 +83,15 @@ fn advance<S: Sink>(
     tracer: &mut Tracer<'_>,
     out: &mut S,
 ) -> Result<(), Failed>
-    requires { MayDo (under world.old (map seen bodies.old.items) (S.held out.old) tracer.old) (go n) }
+    requires { MayDo
+        (under world.old (map seen bodies.old.items) (S.held out.old) tracer.old) (go n) }
 
-    ensures ok { OnOk result (Does
+    ensures done { IsDone result
         (under world.old (map seen bodies.old.items) (S.held out.old) tracer.old) (go n)
-        (under world.new (map seen bodies.new.items) (S.held out.new) tracer.new)) }
-    ensures err { OnErr result (Stops
-        (under world.old (map seen bodies.old.items) (S.held out.old) tracer.old) (go n)
-        (S.held out.new)) }
+        (under world.new (map seen bodies.new.items) (S.held out.new) tracer.new) }
 
-    ensures failed { OnErr result (Rose (S.faults out.old) (S.faults out.new)) }
-    ensures counted { S.faults out.old ≤ S.faults out.new }
-    ensures same_flushes { S.flushes out.new ≡ S.flushes out.old }
+    ensures sink { OnlyWrites result (S.faults out.old) (S.faults out.new)
+        (S.flushes out.old) (S.flushes out.new) }
 {
     for _ in 0..n {
         perform(Event::Advance(0), world, bodies, tracer, out)?;
@@ -109,18 +106,15 @@ fn advance_to_beacon<S: Sink>(
     tracer: &mut Tracer<'_>,
     out: &mut S,
 ) -> Result<(), Failed>
-    requires { MayDo (under world.old (map seen bodies.old.items) (S.held out.old) tracer.old) until_beacon }
+    requires { MayDo
+        (under world.old (map seen bodies.old.items) (S.held out.old) tracer.old) until_beacon }
 
-    ensures ok { OnOk result (Does
+    ensures done { IsDone result
         (under world.old (map seen bodies.old.items) (S.held out.old) tracer.old) until_beacon
-        (under world.new (map seen bodies.new.items) (S.held out.new) tracer.new)) }
-    ensures err { OnErr result (Stops
-        (under world.old (map seen bodies.old.items) (S.held out.old) tracer.old) until_beacon
-        (S.held out.new)) }
+        (under world.new (map seen bodies.new.items) (S.held out.new) tracer.new) }
 
-    ensures failed { OnErr result (Rose (S.faults out.old) (S.faults out.new)) }
-    ensures counted { S.faults out.old ≤ S.faults out.new }
-    ensures same_flushes { S.flushes out.new ≡ S.flushes out.old }
+    ensures sink { OnlyWrites result (S.faults out.old) (S.faults out.new)
+        (S.flushes out.old) (S.flushes out.new) }
 {
     for _ in 0..u64::MAX {
         if world.beacon_next() {
@@ -139,18 +133,17 @@ fn perform_line<S: Sink>(
     tracer: &mut Tracer<'_>,
     out: &mut S,
 ) -> Result<(), Failed>
-    requires { MayDo (under world.old (map seen bodies.old.items) (S.held out.old) tracer.old) (plain_line line) }
+    requires { MayDo
+        (under world.old (map seen bodies.old.items) (S.held out.old) tracer.old)
+        (plain_line line) }
 
-    ensures ok { OnOk result (Does
-        (under world.old (map seen bodies.old.items) (S.held out.old) tracer.old) (plain_line line)
-        (under world.new (map seen bodies.new.items) (S.held out.new) tracer.new)) }
-    ensures err { OnErr result (Stops
-        (under world.old (map seen bodies.old.items) (S.held out.old) tracer.old) (plain_line line)
-        (S.held out.new)) }
+    ensures done { IsDone result
+        (under world.old (map seen bodies.old.items) (S.held out.old) tracer.old)
+        (plain_line line)
+        (under world.new (map seen bodies.new.items) (S.held out.new) tracer.new) }
 
-    ensures failed { OnErr result (Rose (S.faults out.old) (S.faults out.new)) }
-    ensures counted { S.faults out.old ≤ S.faults out.new }
-    ensures same_flushes { S.flushes out.new ≡ S.flushes out.old }
+    ensures sink { OnlyWrites result (S.faults out.old) (S.faults out.new)
+        (S.flushes out.old) (S.flushes out.new) }
 {
     match line {
         Line::Go(n) => advance(n, world, bodies, tracer, out),
@@ -162,12 +155,12 @@ fn perform_line<S: Sink>(
 }
 
 /// Performs the events of the lines of a script, and writes their trace to the sink as they happen:
-/// a line for each, and the last one. Answers their counts. The world is new: it stands for no events
-/// of the set with some right schedules and these bodies.
+/// a line for each, and the last one. Answers their counts. The world is new: it stands for no
+/// events of the set with some right schedules and these bodies.
 ///
-/// Errors: a failed write, after which a prefix of the trace was written; want of memory, which comes
-/// before the first event. No event takes memory. docs/TRACE.md has the lines, docs/SCRIPT.md what a
-/// script says.
+/// Errors: a failed write, after which a prefix of the trace was written; want of memory, which
+/// comes before the first event and leaves the world and the bodies as they were. No event takes
+/// memory. docs/TRACE.md has the lines, docs/SCRIPT.md what a script says.
 pub fn replay<S: Sink>(
     alloc: Global,
     world: &mut World,
@@ -187,15 +180,15 @@ pub fn replay<S: Sink>(
     ensures cut { IsErrOf result ReplayEnd.WriteFault →
         OfReplay set.now lines.now world.old (map seen bodies.old.items)
         (IsCut set.now (map seen bodies.old.items) (S.held out.old) (S.held out.new)) }
-    ensures fault { IsErrOf result ReplayEnd.WriteFault → Rose (S.faults out.old) (S.faults out.new) }
-    ensures memory { IsErrOf result ReplayEnd.Memory → S.held out.new ≡ S.held out.old }
+    ensures fault { IsErrOf result ReplayEnd.WriteFault →
+        Rose (S.faults out.old) (S.faults out.new) }
+    ensures memory { IsErrOf result ReplayEnd.Memory →
+        IsUntouched (S.held out.old) (S.held out.new) world.old world.new
+        (map seen bodies.old.items) (map seen bodies.new.items) }
 
     ensures counted { S.faults out.old ≤ S.faults out.new }
     ensures same_flushes { S.flushes out.new ≡ S.flushes out.old }
 {
-    scripts_spell_once();
-    scripts_are_short();
-    beacons_come_soon();
     let mut tracer = Tracer::make(alloc, set)?;
     for line in lines {
         perform_line(*line, world, bodies, &mut tracer, out)?;

@@ -1,10 +1,10 @@
 //! The trace of a replay as it is written, and what is counted of it.
 
-ghost use Rattle.std.specs.Prelude.{◌≡◌, ◌^◌, ◌<◌, ◌≤◌, ◌++◌, [], IfOk, OnErr, OnOk};
+ghost use Rattle.std.specs.Prelude.{◌≡◌, ◌^◌, ◌<◌, ◌++◌, [], IfOk, OnErr, OnOk};
 ghost use Rattle.std.specs.Io.KnownBytes.{append_known};
-ghost use Rattle.ttw_io.specs.Buffering.{Passes};
-ghost use Rattle.ttw_io.specs.Outside.{AddsFront, Rose};
-ghost use Rattle.replayer.specs.Counting.{HasRoom, counts_of, with_one};
+ghost use Rattle.ttw_io.specs.Buffering.{HasPut, OnlyWrites};
+ghost use Rattle.ttw_io.specs.Outside.{AddsFront};
+ghost use Rattle.replayer.specs.Counting.{CountsOneMore, HasRoom, counts_of};
 ghost use Rattle.replayer.specs.Trace.{done_line, line};
 
 use crate::counts::Counts;
@@ -29,8 +29,11 @@ pub(crate) struct Tracer<'a> {
 impl<'a> Tracer<'a> {
     /// Nothing happened yet in a world of this set.
     pub(crate) fn make(alloc: Global, set: &'a ModeSet) -> Result<Self, AllocError>
-        ensures start { IfOk result (λ t.
-            t ≡ record { names = set.now; buffer = []; counts = counts_of [] }) }
+        ensures start { IfOk result (λ t. t ≡ record {
+          names = set.now;
+          buffer = record { bytes = []; room = HELD_BACK };
+          counts = counts_of [];
+        }) }
         ensures room { IfOk result (λ t. HasRoom t.counts) }
     {
         Ok(Tracer {
@@ -40,37 +43,34 @@ impl<'a> Tracer<'a> {
         })
     }
 
-    /// Writes the line of what happened, and counts it. Lines may still be held back.
+    /// Puts the line of what happened, and counts it. Where there is room for the line, it is held
+    /// back, and nothing is written.
     pub(crate) fn tell<S: Sink>(&mut self, happened: &Happened, out: &mut S) -> Result<(), Failed>
         requires { HasRoom self.old.counts }
 
-        ensures ok { OnOk result (Passes (S.held out.old) (S.held out.new)
-            (self.old.buffer ++ line self.old.names happened.now) self.new.buffer) }
-        ensures counted { self.new.counts ≡ with_one self.old.counts happened.now }
+        ensures put { HasPut result (S.held out.old) (S.held out.new)
+            self.old.buffer self.new.buffer (line self.old.names happened.now) }
+        ensures counted { CountsOneMore self.old.counts happened.now self.new.counts }
         ensures room { self.new.counts.events < 2 ^ 61 → HasRoom self.new.counts }
-        ensures err { OnErr result (AddsFront (S.held out.old) (S.held out.new)
-            (self.old.buffer ++ line self.old.names happened.now)) }
 
         ensures same_names { self.new.names ≡ self.old.names }
-        ensures faults { S.faults out.old ≤ S.faults out.new }
-        ensures same_flushes { S.flushes out.new ≡ S.flushes out.old }
-        ensures failed { OnErr result (Rose (S.faults out.old) (S.faults out.new)) }
+        ensures sink { OnlyWrites result (S.faults out.old) (S.faults out.new)
+            (S.flushes out.old) (S.flushes out.new) }
     {
         self.counts.add(happened);
         put_line(&self.names, happened, &mut self.buffer, out)
     }
 
-    /// Writes the last line, and all that is held back.
+    /// Writes all that is held back, and the last line.
     pub(crate) fn done<S: Sink>(&mut self, out: &mut S) -> Result<(), Failed>
         ensures ok { OnOk result (S.held out.new ≡ append_known (S.held out.old)
-            (self.old.buffer ++ done_line self.old.counts.events)) }
+            (self.old.buffer.bytes ++ done_line self.old.counts.events)) }
         ensures err { OnErr result (AddsFront (S.held out.old) (S.held out.new)
-            (self.old.buffer ++ done_line self.old.counts.events)) }
+            (self.old.buffer.bytes ++ done_line self.old.counts.events)) }
 
         ensures same_counts { self.new.counts ≡ self.old.counts }
-        ensures faults { S.faults out.old ≤ S.faults out.new }
-        ensures same_flushes { S.flushes out.new ≡ S.flushes out.old }
-        ensures failed { OnErr result (Rose (S.faults out.old) (S.faults out.new)) }
+        ensures sink { OnlyWrites result (S.faults out.old) (S.faults out.new)
+            (S.flushes out.old) (S.flushes out.new) }
     {
         put_done(self.counts.events, &mut self.buffer, out)?;
         self.buffer.empty(out)

@@ -1,5 +1,5 @@
 -- The lines of modes, and the answer to a plan
-use Rattle.std.proofs.Common.{◌≡◌, ℕ, ◌+◌, ◌<◌, ◌≤◌, List, [], ◌∷◌, ◌++◌, length, get_or, take, refl, sym, ◌∙◌, ap, subst, arith, inl, inr, append_assoc, append-nil}
+use Rattle.std.proofs.Common.{◌≡◌, ℕ, ◌+◌, ◌<◌, ◌≤◌, List, [], ◌∷◌, ◌++◌, length, get_or, map, take, refl, sym, ◌∙◌, ap, subst, arith, inl, inr, append_assoc, append-nil}
 use Rattle.std.specs.Prelude.{Result, Ok, Err, IfOk, Option}
 use Rattle.std.specs.List.{flat_map, AllZip}
 use Rattle.std.proofs.lemmas.List.{take_more, take_all}
@@ -14,7 +14,7 @@ use Rattle.ttw_program.specs.declared.answers.End.{End}
 use Rattle.ttw_program.specs.declared.mode_files.ModeFile.TheVariants.{Set}
 use Rattle.ttw_program.specs.declared.status.Status.{Status}
 use Rattle.ttw_program.specs.declared.status.Status.TheVariants.{Plan}
-use Rattle.ttw_program.specs.Commands.{none, command}
+use Rattle.ttw_program.specs.Commands.{none, command, of_three, of_two}
 use Rattle.ttw_program.specs.PlanFiles.{OfPlan, PlanSaid, PlanSaidOf, long_plan_line, most_plan_bytes}
 use Rattle.ttw_program.specs.declared.plan_files.PlanFile.{PlanFile}
 use Rattle.ttw_program.specs.declared.plan_files.PlanFile.TheVariants.{Accepted, Refused}
@@ -77,9 +77,30 @@ pub answer_said : (told : Told) (set : ModeSet) (D : ModeSet → Status → List
 answer_said told set D (Ok a) says d = of_said told set D a.status a.text says d
 answer_said told set D (Err e) says d = tt
 
--- fewer than three words are no command
-pub few_words : (words : List (List ℕ)) → length words < 3 → command words ≡ none
+-- fewer than two words are no command
+pub few_words : (words : List (List ℕ)) → length words < 2 → command words ≡ none
 few_words [] l = refl
 few_words (a ∷ []) l = refl
-few_words (a ∷ b ∷ []) l = refl
-few_words (a ∷ b ∷ c ∷ words) l = absurd (omega (arith, l))
+few_words (a ∷ b ∷ words) l = absurd (omega (arith, l))
+
+-- and so are more than four
+pub many_words : (words : List (List ℕ)) → 5 ≤ length words → command words ≡ none
+many_words [] l = refl
+many_words (a ∷ []) l = refl
+many_words (a ∷ b ∷ []) l = absurd (omega (arith, l))
+many_words (a ∷ b ∷ c ∷ []) l = absurd (omega (arith, l))
+many_words (a ∷ b ∷ c ∷ d ∷ []) l = absurd (omega (arith, l))
+many_words (a ∷ b ∷ c ∷ d ∷ e ∷ words) l = refl
+
+pub two_are : {A : Type 0} (f : A → List ℕ) (xs : List A) (d : A) → 2 ≤ length xs → length xs < 3 → command (map f xs) ≡ of_two (f (get_or xs 0 d)) (f (get_or xs 1 d))
+two_are f [] d l m = absurd (omega (arith, l))
+two_are f (a ∷ []) d l m = absurd (omega (arith, l))
+two_are f (a ∷ b ∷ []) d l m = refl
+two_are f (a ∷ b ∷ c ∷ xs) d l m = absurd (omega (arith, m))
+
+pub three_are : {A : Type 0} (f : A → List ℕ) (xs : List A) (d : A) → 3 ≤ length xs → length xs < 4 → command (map f xs) ≡ of_three (f (get_or xs 0 d)) (f (get_or xs 1 d)) (f (get_or xs 2 d))
+three_are f [] d l m = absurd (omega (arith, l))
+three_are f (a ∷ []) d l m = absurd (omega (arith, l))
+three_are f (a ∷ b ∷ []) d l m = absurd (omega (arith, l))
+three_are f (a ∷ b ∷ c ∷ []) d l m = refl
+three_are f (a ∷ b ∷ c ∷ e ∷ xs) d l m = absurd (omega (arith, m))

@@ -9,6 +9,8 @@ pub data Command : Type 0 where
   plan : List ℕ → ℕ → Command
   check : List ℕ → List ℕ → Command
   tables : List ℕ → List ℕ → List ℕ → Command
+  replay : List ℕ → List ℕ → List ℕ → Command
+  drill : ℕ → Command
   guard : List ℕ → ℕ → Command
   none : Command
 
@@ -22,6 +24,15 @@ abbrev pub guard_under : List ℕ → Option ℕ → Command
 guard_under file None = none
 guard_under file (Some ppm) = if nat_le 1 ppm && nat_le ppm 100000 then guard file ppm else none
 
+-- the drill of a seed from 0 to 1,000,000
+abbrev pub drill_of : Option ℕ → Command
+drill_of None = none
+drill_of (Some seed) = if nat_le seed 1000000 then drill seed else none
+
+-- the command of two words
+abbrev pub of_two : List ℕ → List ℕ → Command
+of_two verb last = if bytes_eq verb (codes "drill") then drill_of (number_of last) else none
+
 -- the command of three words
 abbrev pub of_three : List ℕ → List ℕ → List ℕ → Command
 of_three verb file last =
@@ -29,12 +40,15 @@ of_three verb file last =
     else (if bytes_eq verb (codes "check") then check file last
     else (if bytes_eq verb (codes "guard") then guard_under file (number_of last) else none))
 
--- the command of four words: the node has a name's spelling
+-- the command of four words: a node has a name's spelling
 abbrev pub of_four : List ℕ → List ℕ → List ℕ → List ℕ → Command
-of_four verb file other last = if bytes_eq verb (codes "tables") && is_name last then tables file other last else none
+of_four verb file other last =
+    if bytes_eq verb (codes "replay") then replay file other last
+    else (if bytes_eq verb (codes "tables") && is_name last then tables file other last else none)
 
 -- the command of any words
 abbrev pub command : List (List ℕ) → Command
+command (verb ∷ last ∷ []) = of_two verb last
 command (verb ∷ file ∷ last ∷ []) = of_three verb file last
 command (verb ∷ file ∷ other ∷ last ∷ []) = of_four verb file other last
 command _ = none

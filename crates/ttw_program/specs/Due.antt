@@ -1,6 +1,7 @@
 -- Which status and which text are due
 use Rattle.std.specs.Prelude.{◌≡◌, ◌⊎◌, ℕ, List}
 use Rattle.ttw_io.specs.Outside.{Told, OfFile}
+use Rattle.task_body.specs.Body.{BodySeen}
 use Rattle.app_graph.specs.declared.mode_set.ModeSet.{ModeSet}
 use Rattle.mode_file.specs.declared.faults.FileFault.{FileFault}
 use Rattle.mode_file.specs.Reading.{Reads, Broken}
@@ -15,7 +16,9 @@ use Rattle.ttw_program.specs.Plans.{PlansAll, SpendsFirst, plan_status}
 use Rattle.ttw_program.specs.Checks.{CheckDue}
 use Rattle.ttw_program.specs.Tables.{TablesDue}
 use Rattle.ttw_program.specs.Guards.{GuardDue}
-use Rattle.ttw_program.specs.Commands.{Command, plan, check, tables, guard, none, command}
+use Rattle.ttw_program.specs.Replays.{ReplayDue}
+use Rattle.ttw_program.specs.Drills.{DrillDue}
+use Rattle.ttw_program.specs.Commands.{Command, plan, check, tables, replay, drill, guard, none, command}
 
 -- what a command makes due of the bytes of a mode file: a refusal, or what it makes due of the set that they say
 abbrev pub OfSet : (ModeSet → Status → List ℕ → Type 0) → List ℕ → Status → List ℕ → Type 0
@@ -32,14 +35,16 @@ PlanDue budget set status text =
 abbrev pub IsUsage : Status → List ℕ → Type 0
 IsUsage status text = (status ≡ Usage) × (text ≡ usage_line)
 
--- what is due of a command
-abbrev pub OfCommand : Command → (List ℕ → Told) → Status → List ℕ → Type 0
-OfCommand (plan file budget) told = OfFile (told file) (OfSet (PlanDue budget))
-OfCommand (check file other) told = OfFile (told file) (OfSet (λ set. OfFile (told other) (CheckDue set)))
-OfCommand (tables file other node) told = OfFile (told file) (OfSet (TablesDue (told other) node))
-OfCommand (guard file ppm) told = OfFile (told file) (OfSet (GuardDue ppm))
-OfCommand none told = IsUsage
+-- what is due of a command, where this is told of files and these bodies are handed in
+abbrev pub OfCommand : Command → (List ℕ → Told) → List BodySeen → Status → List ℕ → Type 0
+OfCommand (plan file budget) told bodies = OfFile (told file) (OfSet (PlanDue budget))
+OfCommand (check file other) told bodies = OfFile (told file) (OfSet (λ set. OfFile (told other) (CheckDue set)))
+OfCommand (tables file other node) told bodies = OfFile (told file) (OfSet (TablesDue (told other) node))
+OfCommand (replay file other script) told bodies = OfFile (told file) (OfSet (ReplayDue (told other) (told script) bodies))
+OfCommand (drill seed) told bodies = DrillDue seed bodies
+OfCommand (guard file ppm) told bodies = OfFile (told file) (OfSet (GuardDue ppm))
+OfCommand none told bodies = IsUsage
 
--- what is due of the words, where this is told of files
-abbrev pub Due : List (List ℕ) → (List ℕ → Told) → Status → List ℕ → Type 0
-Due words told = OfCommand (command words) told
+-- what is due of the words
+abbrev pub Due : List (List ℕ) → (List ℕ → Told) → List BodySeen → Status → List ℕ → Type 0
+Due words told bodies = OfCommand (command words) told bodies

@@ -56,9 +56,18 @@ Ends Due counts old new WriteFault = Rose counts.sink.faults_before counts.sink.
 Ends Due counts old new ReadFault = FlushedOnce counts.sink × AddsDue (ReadFaultDue counts) ReadFault old new
 Ends Due counts old new status = FlushedOnce counts.sink × AddsDue Due status old new
 
+-- a flush ends with the status that is due, or failed
+abbrev pub IsFlushed : Status → ℕ → ℕ → Status → Type 0
+IsFlushed due before now status = (status ≡ due) ⊎ ((status ≡ WriteFault) × Rose before now)
+
 -- what writing a text ends with: the status that goes with it after the flush, or a write fault of a write or of the flush
 abbrev pub Finishes : Status → List ℕ → SinkCounts → Option (List ℕ) → Option (List ℕ) → Status → Type 0
 Finishes due text sink old new status =
     ((status ≡ due) × FlushedOnce sink × (new ≡ append_known old text))
     ⊎ ((status ≡ WriteFault) × Rose sink.faults_before sink.faults_now
     × ((NotFlushed sink × AddsFront old new text) ⊎ (FlushedOnce sink × (new ≡ append_known old text))))
+
+-- what writing a trace ends with: the same, or it never began, since memory ran out
+abbrev pub FinishesOrNot : Status → List ℕ → SinkCounts → Option (List ℕ) → Option (List ℕ) → Status → Type 0
+FinishesOrNot due text sink old new status =
+    Finishes due text sink old new status ⊎ ((status ≡ Memory) × NotFlushed sink × (new ≡ old))

@@ -8,4 +8,10 @@ pub mod PlanFiles
 pub mod Checks
 pub mod Tables
 pub mod Guards
+pub mod Bodies
+pub mod ScriptFiles
+pub mod Replays
+pub mod Drills
 pub mod Due
+pub mod Headline
+pub mod OneAnswer

@@ -1,5 +1,5 @@
 -- What a plan says of a set within a budget
-use Rattle.std.specs.Prelude.{ℕ, ◌+◌, ◌<◌, ◌≤◌, List, length, take, is_some, if◌then◌else◌}
+use Rattle.std.specs.Prelude.{◌≡◌, ℕ, ◌+◌, ◌<◌, ◌≤◌, List, length, take, sum, is_some, if◌then◌else◌}
 use Rattle.std.specs.List.{list_all, AllByRecursion, AllZip}
 use Rattle.app_graph.specs.declared.mode_set.ModeSet.{ModeSet}
 use Rattle.app_graph.specs.declared.mode_set.Mode.{Mode}
@@ -37,7 +37,15 @@ pub record SpendsFirst (set : ModeSet) (budget i r : ℕ) : Type 0 where
 abbrev pub plan_status : List ModePart → Status
 plan_status parts = if list_all (λ part. is_some part.schedule) parts then Done else NoSchedule
 
--- what is planned: a part for each mode, or the first mode whose search exceeds the budget
+-- the searches of these modes visit so many prefixes: the sum of their costs
+abbrev pub VisitsIn : ModeSet → List Mode → ℕ → Type 0
+VisitsIn set modes visited = (costs : List ℕ) × AllZip (λ mode cost. Cost (plain_mode set mode) cost) modes costs × (visited ≡ sum costs)
+
+-- those of all modes do
+abbrev pub VisitsAll : ModeSet → ℕ → Type 0
+VisitsAll set visited = VisitsIn set set.modes visited
+
+-- what is planned: a part for each mode and how many prefixes were visited, or the first mode whose search exceeds the budget
 abbrev pub IsPlans : ModeSet → ℕ → Plans → Type 0
-IsPlans set budget (Made parts) = PlansAll set budget parts.items
+IsPlans set budget (Made parts visited) = PlansAll set budget parts.items × VisitsAll set visited
 IsPlans set budget (Spent mode rounds) = SpendsFirst set budget mode rounds

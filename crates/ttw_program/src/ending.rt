@@ -1,10 +1,35 @@
 //! The end of a run: its text is written whole, and flushed once.
 
-ghost use Rattle.std.specs.Prelude.{◌≤◌};
-ghost use Rattle.ttw_program.specs.Endings.{Finishes};
+ghost use Rattle.std.specs.Prelude.{◌≡◌, ◌≤◌, false, map};
+ghost use Rattle.app_graph.specs.Validation.{KeepsRules};
+ghost use Rattle.replay_script.specs.Fitting.{FitsScript};
+ghost use Rattle.ttw_io.specs.Outside.{one_more};
+ghost use Rattle.world_core.specs.StandsFor.{system_with};
+ghost use Rattle.replayer.specs.Replaying.{IsNewWorld, OfReplay};
+ghost use Rattle.replayer.specs.Trace.{trace};
+ghost use Rattle.ttw_program.specs.Endings.{Finishes, FinishesOrNot, IsFlushed};
 
+use crate::replaying::Replay;
 use crate::status::Status;
+use replayer::{ReplayEnd, replay};
+use std::alloc::Global;
+use task_body::TaskBody;
 use ttw_io::{Sink, write_all};
+
+/// Flushes once the text that goes with this status was written.
+fn flush<S: Sink>(out: &mut S, status: Status) -> Status
+    ensures end { IsFlushed status (S.faults out.old) (S.faults out.new) result }
+    ensures once { S.flushes out.new ≡ one_more (S.flushes out.old) }
+    ensures last { S.unflushed out.new ≡ false }
+
+    ensures kept { S.held out.new ≡ S.held out.old }
+    ensures counted { S.faults out.old ≤ S.faults out.new }
+{
+    if out.flush().is_err() {
+        return Status::WriteFault;
+    }
+    status
+}
 
 /// Writes the text and flushes.
 pub(crate) fn finish<S: Sink>(out: &mut S, status: Status, text: &[u8]) -> Status
@@ -14,8 +39,36 @@ pub(crate) fn finish<S: Sink>(out: &mut S, status: Status, text: &[u8]) -> Statu
     if write_all(out, text).is_err() {
         return Status::WriteFault;
     }
-    if out.flush().is_err() {
-        return Status::WriteFault;
+    flush(out, status)
+}
+
+/// Performs the replay, writes its trace as it happens, and flushes.
+pub(crate) fn finish_replay<S: Sink>(
+    alloc: Global,
+    due: Replay,
+    bodies: &mut Vec<Box<dyn TaskBody>>,
+    out: &mut S,
+) -> Status
+    requires rules { KeepsRules due.set }
+    requires fits { FitsScript due.set due.script }
+    requires new { IsNewWorld due.set due.world (map seen bodies.old.items) }
+
+    ensures end { OfReplay due.set due.script due.world (map seen bodies.old.items) (λ schedules es.
+        FinishesOrNot Status.Done
+        (trace due.set (system_with due.set schedules (map seen bodies.old.items)) es)
+        (record { faults_before = S.faults out.old; faults_now = S.faults out.new; flushes_before = S.flushes out.old; flushes_now = S.flushes out.new; unflushed = S.unflushed out.new })
+        (S.held out.old) (S.held out.new) result) }
+
+    ensures counted { S.faults out.old ≤ S.faults out.new }
+{
+    let Replay {
+        set,
+        mut world,
+        script,
+    } = due;
+    match replay(alloc, &mut world, &set, script.as_slice(), bodies, out) {
+        Ok(_counts) => flush(out, Status::Done),
+        Err(ReplayEnd::WriteFault) => Status::WriteFault,
+        Err(ReplayEnd::Memory) => Status::Memory,
     }
-    status
 }

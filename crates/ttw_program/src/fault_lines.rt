@@ -5,7 +5,10 @@ ghost use Rattle.ttw_text.specs.Numbers.{spelled};
 ghost use Rattle.sched_model.specs.PlainMode.{mode_at};
 ghost use Rattle.cert_checker.specs.Refusals as refusals;
 ghost use Rattle.mode_file.specs.declared.faults.FileFault.TheVariants.{Unknown};
+ghost use Rattle.ttw_program.specs.Bodies as bodies;
 ghost use Rattle.ttw_program.specs.PlanFiles as plans;
+ghost use Rattle.ttw_program.specs.ScriptFiles as scripts;
+ghost use Rattle.ttw_program.specs.ScriptFiles.{fault_said};
 ghost use Rattle.ttw_program.specs.PlanFiles.{refusal_said};
 ghost use Rattle.ttw_program.specs.FaultLines as lines;
 ghost use Rattle.ttw_program.specs.FaultLines.{said};
@@ -13,6 +16,7 @@ ghost use Rattle.ttw_program.specs.FaultLines.{said};
 use app_graph::ModeSet;
 use cert_checker::Refused;
 use mode_file::FileFault;
+use replay_script::ScriptFault;
 use sched_model::mode_name;
 use std::alloc::{AllocError, Global};
 use ttw_text::Out;
@@ -144,6 +148,41 @@ pub(crate) fn unknown_node_line(alloc: Global, name: &[u8]) -> Result<Out, Alloc
     let mut out = Out::make(alloc);
     out.put(b"modes: unknown ")?;
     out.put(name)?;
+    out.line_end()?;
+    Ok(out)
+}
+
+/// The line of a task's body, by its name, that none of the bodies is.
+pub(crate) fn no_body_line(alloc: Global, name: &[u8]) -> Result<Out, AllocError>
+    ensures { IfOk result (λ out. out ≡ bodies.no_body_line name.now) }
+{
+    let mut out = Out::make(alloc);
+    out.put(b"modes: no body ")?;
+    out.put(name)?;
+    out.line_end()?;
+    Ok(out)
+}
+
+/// Adds what is said of a refused script.
+fn write_script_fault(fault: ScriptFault, out: &mut Out) -> Result<(), AllocError>
+    ensures { OnOk result (out.new ≡ out.old ++ fault_said fault) }
+{
+    match fault {
+        ScriptFault::BadLine(line) => write_numbered(b"bad line ", line, out),
+        ScriptFault::Unknown(line) => write_numbered(b"unknown line ", line, out),
+        ScriptFault::HostNamed(line) => write_numbered(b"host line ", line, out),
+        ScriptFault::TooMany(line) => write_numbered(b"too many line ", line, out),
+        ScriptFault::Memory => Ok(()),
+    }
+}
+
+/// The line of a refused script.
+pub(crate) fn script_line(alloc: Global, fault: ScriptFault) -> Result<Out, AllocError>
+    ensures { IfOk result (λ out. out ≡ scripts.script_line fault) }
+{
+    let mut out = Out::make(alloc);
+    out.put(b"script: ")?;
+    write_script_fault(fault, &mut out)?;
     out.line_end()?;
     Ok(out)
 }

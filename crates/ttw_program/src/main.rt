@@ -2,14 +2,23 @@
 #![tactic(auto)]
 
 mod answers;
+mod bodies;
 mod checking;
+#[cfg(test)]
+mod drill_tests;
+mod drilling;
 mod ending;
 mod fault_lines;
 mod guarding;
+pub mod laws;
 mod mode_files;
 mod plan_files;
 mod planning;
 mod program;
+#[cfg(test)]
+mod replay_tests;
+mod replaying;
+mod script_files;
 mod status;
 mod tables;
 #[cfg(test)]
@@ -21,6 +30,7 @@ use std::alloc::AllocError;
 use std::env;
 use std::io::ErrorKind;
 use std::process::ExitCode;
+use task_body::{Hold, Tally, TaskBody};
 use ttw_io::{DiskFiles, StdSink};
 
 /// The words after the program's name. Where one is not text there are none.
@@ -44,7 +54,10 @@ fn run_words(rt: HostRuntime) -> Result<Status, AllocError> {
     let words: Vec<&str> = words.iter().map(|word| word.as_str()).collect(alloc)?;
     let mut files = DiskFiles::make(alloc, rt.clone()?)?;
     let mut out = StdSink::make(rt);
-    Ok(run(alloc, words.as_slice(), &mut files, &mut out))
+    let mut bodies: Vec<Box<dyn TaskBody>> = Vec::new(alloc);
+    bodies.push(Box::new(alloc, Tally::make(alloc)?)?)?;
+    bodies.push(Box::new(alloc, Hold::make(alloc)?)?)?;
+    Ok(run(alloc, words.as_slice(), &mut files, &mut out, bodies))
 }
 
 fn main(rt: HostRuntime) -> ExitCode {

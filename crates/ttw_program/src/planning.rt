@@ -3,7 +3,9 @@
 ghost use Rattle.std.specs.Prelude.{◌≡◌, ◌≤◌, ◌<◌, length, IfOk, IsErrOf, is_some};
 ghost use Rattle.std.specs.List.{list_all};
 ghost use Rattle.app_graph.specs.Validation.{KeepsRules};
+ghost use Rattle.sched_model.specs.PlainMode.{mode_at};
 ghost use Rattle.ttw_io.specs.Outside.{Rose, OfFile};
+ghost use Rattle.ttw_program.specs.FaultLines as lines;
 ghost use Rattle.ttw_program.specs.Plans.{IsPlans, PlansAll, SpendsFirst, plan_status};
 ghost use Rattle.ttw_program.specs.Due.{OfSet, PlanDue};
 
@@ -22,8 +24,8 @@ use ttw_text::Out;
 /// What is planned for the modes of a set.
 #[derive(Drop)]
 pub(crate) enum Plans {
-    /// A part for each mode.
-    Made(Vec<ModePart>),
+    /// A part for each mode, and how many prefixes were visited in all.
+    Made { parts: Vec<ModePart>, visited: u64 },
     /// The first mode whose search exceeds the budget, and the number of rounds at which it does.
     Spent { mode: u32, rounds: u64 },
 }
@@ -37,18 +39,23 @@ fn count_of(set: &ModeSet) -> u32
 }
 
 /// Plans the modes in file order.
-fn plan_modes(alloc: Global, set: &ModeSet, budget: u64) -> Result<Plans, AllocError>
+pub(crate) fn plan_modes(alloc: Global, set: &ModeSet, budget: u64) -> Result<Plans, AllocError>
     requires rules { KeepsRules set.now }
+    requires budget { budget ≤ 100_000 }
     ensures { IfOk result (IsPlans set.now budget) }
 {
     let mut parts = Vec::new(alloc);
+    let mut visited = 0;
     for mode in 0..count_of(set) {
         match plan_mode(alloc, set, mode, budget)? {
-            Planned::Made(part, _cost) => parts.push(part)?,
+            Planned::Made(part, cost) => {
+                parts.push(part)?;
+                visited += cost;
+            }
             Planned::Spent { rounds } => return Ok(Plans::Spent { mode, rounds }),
         }
     }
-    Ok(Plans::Made(parts))
+    Ok(Plans::Made { parts, visited })
 }
 
 /// Whether every mode has a schedule.
@@ -91,7 +98,7 @@ fn document(
 }
 
 /// The answer that the mode's search exceeds the budget at so many rounds.
-fn exceeded(
+pub(crate) fn exceeded(
     alloc: Global,
     set: &ModeSet,
     budget: u64,
@@ -99,7 +106,9 @@ fn exceeded(
     rounds: u64,
 ) -> Result<Answer, AllocError>
     requires { SpendsFirst set.now budget mode rounds }
-    ensures { IfOk result (λ a. PlanDue budget set.now a.status a.text) }
+    ensures due { IfOk result (λ a. PlanDue budget set.now a.status a.text) }
+    ensures status { IfOk result (λ a. a.status ≡ Status.Budget) }
+    ensures text { IfOk result (λ a. a.text ≡ lines.budget_line (mode_at set.now mode).name rounds) }
 {
     let mode = &set.modes.as_slice()[mode as usize];
     Ok(Answer {
@@ -115,7 +124,7 @@ fn plan_set(alloc: Global, set: &ModeSet, budget: u64) -> Result<Answer, AllocEr
     ensures { IfOk result (λ a. PlanDue budget set.now a.status a.text) }
 {
     match plan_modes(alloc, set, budget)? {
-        Plans::Made(parts) => document(alloc, set, budget, parts.as_slice()),
+        Plans::Made { parts, .. } => document(alloc, set, budget, parts.as_slice()),
         Plans::Spent { mode, rounds } => exceeded(alloc, set, budget, mode, rounds),
     }
 }

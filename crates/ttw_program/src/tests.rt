@@ -3,8 +3,21 @@ use std::alloc::Global;
 use std::test::Fail;
 use ttw_io::{MemFiles, MemSink};
 
+/// The status of these words, with the bodies of the program.
+fn status_of(
+    alloc: Global,
+    words: &[&str],
+    files: &mut MemFiles,
+    out: &mut MemSink,
+) -> Result<Status, Fail> {
+    let mut bodies: Vec<Box<dyn TaskBody>> = Vec::new(alloc);
+    bodies.push(Box::new(alloc, Tally::make(alloc)?)?)?;
+    bodies.push(Box::new(alloc, Hold::make(alloc)?)?)?;
+    Ok(run(alloc, words, files, out, bodies))
+}
+
 /// One task with a period of 100 ticks, in rounds of 10 with gaps of 40.
-const BLINK: &str =
+pub(crate) const BLINK: &str =
     "slots = 2\nround = 10\ngap = 40\nhost = \"n0\"\nnodes = [\"n0\", \"n1\"]\n[[mode]]\nname = \"run\"\n[[mode.app]]\nname = \"lamp\"\nperiod = 100\ndeadline = 100\n[[mode.app.task]]\nname = \"blink\"\nnode = \"n1\"\nwcet = 3\n";
 
 /// The files with this one, whose numbered reads fail.
@@ -27,7 +40,7 @@ fn answer(
 ) -> Result<(Status, Vec<u8>), Fail> {
     let mut files = files_with(alloc, text, reads)?;
     let mut out = MemSink::make(alloc, 4096, 8, writes.to_vec(alloc)?)?;
-    let status = run(alloc, words, &mut files, &mut out);
+    let status = status_of(alloc, words, &mut files, &mut out)?;
     Ok((status, out.bytes().to_vec(alloc)?))
 }
 
@@ -153,7 +166,7 @@ fn no_round_fits(rt: HostRuntime) -> Result<(), Fail> {
 }
 
 /// A sensor, a controller and an actuator on three nodes, with a message between each two.
-const LOOP: &str =
+pub(crate) const LOOP: &str =
     "slots = 2\nround = 20\ngap = 100\nhost = \"n0\"\nnodes = [\"n0\", \"n1\", \"n2\"]\n[[mode]]\nname = \"run\"\n[[mode.app]]\nname = \"loop\"\nperiod = 100\ndeadline = 100\n[[mode.app.task]]\nname = \"sense\"\nnode = \"n1\"\nwcet = 2\n[[mode.app.task]]\nname = \"ctrl\"\nnode = \"n0\"\nwcet = 5\n[[mode.app.task]]\nname = \"act\"\nnode = \"n2\"\nwcet = 1\n[[mode.app.message]]\nname = \"m1\"\nfrom = [\"sense\"]\nto = [\"ctrl\"]\n[[mode.app.message]]\nname = \"m2\"\nfrom = [\"ctrl\"]\nto = [\"act\"]\n";
 
 #[test]
@@ -204,7 +217,7 @@ fn shared_node_plan(rt: HostRuntime) -> Result<(), Fail> {
 }
 
 /// Three applications, each of two tasks on nodes of their own with one message between them, for rounds of one slot.
-fn three_messages(alloc: Global) -> Result<String, Fail> {
+pub(crate) fn three_messages(alloc: Global) -> Result<String, Fail> {
     let mut file =
         "slots = 1\nround = 50\ngap = 100\nhost = \"n0\"\nnodes = [\"n0\", \"n1\", \"n2\", \"n3\", \"n4\", \"n5\"]\n[[mode]]\nname = \"run\"\n".to_string(
             alloc,
@@ -254,7 +267,7 @@ fn answer_of_two(
     list.push(("loop.ttw".to_string(alloc)?, plan.to_vec(alloc)?))?;
     let mut files = MemFiles::make(list, reads.to_vec(alloc)?);
     let mut out = MemSink::make(alloc, 4096, 4096, Vec::new(alloc))?;
-    let status = run(alloc, words, &mut files, &mut out);
+    let status = status_of(alloc, words, &mut files, &mut out)?;
     Ok((status, out.bytes().to_vec(alloc)?))
 }
 
@@ -281,7 +294,7 @@ fn checks(alloc: Global, file: &str, plan: &str, wanted: (Status, &str)) -> Resu
 }
 
 /// A plan of the control loop with 20 lines.
-const LOOP_PLAN: &str =
+pub(crate) const LOOP_PLAN: &str =
     "ttw 1\nmode run\nrefute 1\nbranch\ncycle 17 2 6\nbranch\ncycle 19 4 11\ncycle 19 18 9 11\ncycle 20 14 16 3\ncycle 18 7 3\nschedule 2\nstart 0 23\ntask sense 21\ntask ctrl 43\ntask act 120\nmessage m1 23 43\nmessage m2 48 120\ntable 1 m2\ntable 2 m1\nend\n";
 
 #[test]
@@ -436,7 +449,7 @@ fn failing_reads_of_tables(rt: HostRuntime) -> Result<(), Fail> {
 }
 
 /// Two modes, each with one task on a node of its own.
-const PAIR: &str =
+pub(crate) const PAIR: &str =
     "slots = 1\nround = 20\ngap = 100\nhost = \"n0\"\nnodes = [\"n0\", \"n2\"]\n[[mode]]\nname = \"a\"\n[[mode.app]]\nname = \"first\"\nperiod = 100\ndeadline = 100\n[[mode.app.task]]\nname = \"x\"\nnode = \"n2\"\nwcet = 1\n[[mode]]\nname = \"b\"\n[[mode.app]]\nname = \"second\"\nperiod = 100\ndeadline = 100\n[[mode.app.task]]\nname = \"y\"\nnode = \"n2\"\nwcet = 1\n";
 
 #[test]

@@ -1,4 +1,4 @@
-use Rattle.std.proofs.Common.{◌≡◌, rules, FitsSigned, w64, sym, ap, arith, ◌∙◌, get_or, pos, ◌+ℤ◌, ℤ}
+use Rattle.std.proofs.Common.{rules, FitsSigned, w64, sym, ap, arith, ◌∙◌, get_or, pos, ◌+ℤ◌, ℤ}
 use Rattle.std.specs.Int.{w128}
 use Rattle.std.proofs.lemmas.Int.{ints, to_z-of_z}
 use Rattle.std.proofs.lemmas.List.Sums.{fold_more}

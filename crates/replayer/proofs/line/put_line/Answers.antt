@@ -1,25 +1,15 @@
 use Rattle.std.proofs.Common.{rules, FitsSigned, w64, sym, ap}
 use Rattle.std.proofs.lemmas.Int.{to_z-of_z}
 use Rattle.replayer.specs.Trace.{line}
-use Rattle.replayer.proofs.Joining.{ok_same, err_same}
+use Rattle.ttw_io.proofs.BufferLemmas.{has_put_same}
 use Rattle.replayer.proofs.line.put_line.Goals as goal
 
-pub returns-in-Beacon-clause-ok : goal.returns-in-Beacon-clause-ok
-returns-in-Beacon-clause-ok g c =
+pub returns-in-Beacon-clause-put : goal.returns-in-Beacon-clause-put
+returns-in-Beacon-clause-put g c =
     let fits : FitsSigned w64 c.in-Beacon.at = search rules in
-    ok_same c.put_beacon.result _ _ _ _ _ _ (ap (λ h. line c.args.names.now h) (sym c.in-Beacon.is)) (simp to_z-of_z at c.put_beacon.ensures.ok)
+    has_put_same c.put_beacon.result _ _ c.args.buffer.now _ _ _ (ap (λ h. line c.args.names.now h) (sym c.in-Beacon.is)) (simp to_z-of_z at c.put_beacon.ensures.put)
 
-pub returns-in-Beacon-clause-err : goal.returns-in-Beacon-clause-err
-returns-in-Beacon-clause-err g c =
-    let fits : FitsSigned w64 c.in-Beacon.at = search rules in
-    err_same c.put_beacon.result _ _ _ _ _ (ap (λ h. line c.args.names.now h) (sym c.in-Beacon.is)) (simp to_z-of_z at c.put_beacon.ensures.err)
-
-pub returns-in-Sent-clause-ok : goal.returns-in-Sent-clause-ok
-returns-in-Sent-clause-ok g c =
+pub returns-in-Sent-clause-put : goal.returns-in-Sent-clause-put
+returns-in-Sent-clause-put g c =
     let fits : FitsSigned w64 c.in-Sent.at = search rules in
-    ok_same c.put_sent.result _ _ _ _ _ _ (ap (λ h. line c.args.names.now h) (sym c.in-Sent.is)) (simp to_z-of_z at c.put_sent.ensures.ok)
-
-pub returns-in-Sent-clause-err : goal.returns-in-Sent-clause-err
-returns-in-Sent-clause-err g c =
-    let fits : FitsSigned w64 c.in-Sent.at = search rules in
-    err_same c.put_sent.result _ _ _ _ _ (ap (λ h. line c.args.names.now h) (sym c.in-Sent.is)) (simp to_z-of_z at c.put_sent.ensures.err)
+    has_put_same c.put_sent.result _ _ c.args.buffer.now _ _ _ (ap (λ h. line c.args.names.now h) (sym c.in-Sent.is)) (simp to_z-of_z at c.put_sent.ensures.put)

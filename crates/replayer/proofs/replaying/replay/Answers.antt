@@ -14,46 +14,46 @@ perform_line-requires g c =
 pub returns-in_err-perform_line-clause-cut : goal.returns-in_err-perform_line-clause-cut
 returns-in_err-perform_line-clause-cut g c is =
     let made = map (λ b. (goal.TaskBody-dyn g (b.vtable, b.value)).seen b.value) c.args.bodies.now.items in
-    line_cut c.args.set.now made c.args.lines.now c.requires.rules c.requires.fits _ _ _ c.in_ok-tracer.tracer _ c.loop-line.line-index (c.in_ok-tracer.ensures.start, c.in_ok-tracer.ensures.room) c.loop-line-test.true c.loop-line.invariant.0 c.in_err-perform_line.ensures.err
+    line_cut c.args.set.now made c.args.lines.now c.requires.rules c.requires.fits _ _ _ c.in_ok-tracer.tracer _ c.loop-line.line-index (c.in_ok-tracer.ensures.start, c.in_ok-tracer.ensures.room) c.loop-line-test.true c.loop-line.invariant.0 c.in_err-perform_line.ensures.done.err
 
 pub returns-in_err-perform_line-clause-fault : goal.returns-in_err-perform_line-clause-fault
-returns-in_err-perform_line-clause-fault g c is = later_rose _ _ _ c.loop-line.invariant.1 c.in_err-perform_line.ensures.failed
+returns-in_err-perform_line-clause-fault g c is = later_rose _ _ _ c.loop-line.invariant.1 c.in_err-perform_line.ensures.sink.failed
 
 pub returns-in_err-perform_line-clause-counted : goal.returns-in_err-perform_line-clause-counted
-returns-in_err-perform_line-clause-counted g c = omega (arith, c.loop-line.invariant.1, c.in_err-perform_line.ensures.counted)
+returns-in_err-perform_line-clause-counted g c = omega (arith, c.loop-line.invariant.1, c.in_err-perform_line.ensures.sink.counted)
 
 pub returns-in_err-perform_line-clause-same_flushes : goal.returns-in_err-perform_line-clause-same_flushes
-returns-in_err-perform_line-clause-same_flushes g c = c.in_err-perform_line.ensures.same_flushes ∙ c.loop-line.invariant.2
+returns-in_err-perform_line-clause-same_flushes g c = c.in_err-perform_line.ensures.sink.same_flushes ∙ c.loop-line.invariant.2
 
 pub loop-line-preserved : goal.loop-line-preserved
 loop-line-preserved g c =
     let made = map (λ b. (goal.TaskBody-dyn g (b.vtable, b.value)).seen b.value) c.args.bodies.now.items in (
-      line_more c.args.set.now made c.args.lines.now c.requires.rules c.requires.fits _ _ _ c.loop-line.line-index c.loop-line-test.true c.loop-line.invariant.0 c.in_ok-perform_line.ensures.ok,
-      omega (arith, c.loop-line.invariant.1, c.in_ok-perform_line.ensures.counted),
-      c.in_ok-perform_line.ensures.same_flushes ∙ c.loop-line.invariant.2,
+      line_more c.args.set.now made c.args.lines.now c.requires.rules c.requires.fits _ _ _ c.loop-line.line-index c.loop-line-test.true c.loop-line.invariant.0 c.in_ok-perform_line.ensures.done.ok,
+      omega (arith, c.loop-line.invariant.1, c.in_ok-perform_line.ensures.sink.counted),
+      c.in_ok-perform_line.ensures.sink.same_flushes ∙ c.loop-line.invariant.2,
     )
 
 pub returns-in_err-done-clause-cut : goal.returns-in_err-done-clause-cut
 returns-in_err-done-clause-cut g c is =
     let made = map (λ b. (goal.TaskBody-dyn g (b.vtable, b.value)).seen b.value) c.args.bodies.now.items in
-    end_cut c.args.set.now made c.args.lines.now c.requires.rules c.requires.fits _ _ _ _ _ _ c.in_ok-tracer.tracer _ c.loop-line.line-index (c.in_ok-tracer.ensures.start, c.in_ok-tracer.ensures.room) c.loop-line-test.false c.loop-line.invariant.0 c.in_err-done.ensures.err
+    end_cut c.args.set.now made c.args.lines.now c.requires.rules c.requires.fits _ _ _ _ _ _ c.in_ok-tracer.tracer c.loop-line.tracer c.loop-line.line-index (c.in_ok-tracer.ensures.start, c.in_ok-tracer.ensures.room) c.loop-line-test.false c.loop-line.invariant.0 c.in_err-done.ensures.err
 
 pub returns-in_err-done-clause-fault : goal.returns-in_err-done-clause-fault
-returns-in_err-done-clause-fault g c is = later_rose _ _ _ c.loop-line.invariant.1 c.in_err-done.ensures.failed
+returns-in_err-done-clause-fault g c is = later_rose _ _ _ c.loop-line.invariant.1 c.in_err-done.ensures.sink.failed
 
 pub returns-in_err-done-clause-counted : goal.returns-in_err-done-clause-counted
-returns-in_err-done-clause-counted g c = omega (arith, c.loop-line.invariant.1, c.in_err-done.ensures.faults)
+returns-in_err-done-clause-counted g c = omega (arith, c.loop-line.invariant.1, c.in_err-done.ensures.sink.counted)
 
 pub returns-in_err-done-clause-same_flushes : goal.returns-in_err-done-clause-same_flushes
-returns-in_err-done-clause-same_flushes g c = c.in_err-done.ensures.same_flushes ∙ c.loop-line.invariant.2
+returns-in_err-done-clause-same_flushes g c = c.in_err-done.ensures.sink.same_flushes ∙ c.loop-line.invariant.2
 
 pub returns-clause-whole : goal.returns-clause-whole
 returns-clause-whole g c =
     let made = map (λ b. (goal.TaskBody-dyn g (b.vtable, b.value)).seen b.value) c.args.bodies.now.items in
-    all_written c.args.set.now made c.args.lines.now c.requires.rules c.requires.fits _ _ _ _ _ _ c.in_ok-tracer.tracer _ _ c.loop-line.line-index (c.in_ok-tracer.ensures.start, c.in_ok-tracer.ensures.room) c.loop-line-test.false c.loop-line.invariant.0 c.in_ok-done.ensures.ok (c.counts.ensures ∙ c.in_ok-done.ensures.same_counts)
+    all_written c.args.set.now made c.args.lines.now c.requires.rules c.requires.fits _ _ _ _ _ _ c.in_ok-tracer.tracer c.loop-line.tracer _ c.loop-line.line-index (c.in_ok-tracer.ensures.start, c.in_ok-tracer.ensures.room) c.loop-line-test.false c.loop-line.invariant.0 c.in_ok-done.ensures.ok (c.counts.ensures ∙ c.in_ok-done.ensures.same_counts)
 
 pub returns-clause-counted : goal.returns-clause-counted
-returns-clause-counted g c = omega (arith, c.loop-line.invariant.1, c.in_ok-done.ensures.faults)
+returns-clause-counted g c = omega (arith, c.loop-line.invariant.1, c.in_ok-done.ensures.sink.counted)
 
 pub returns-clause-same_flushes : goal.returns-clause-same_flushes
-returns-clause-same_flushes g c = c.in_ok-done.ensures.same_flushes ∙ c.loop-line.invariant.2
+returns-clause-same_flushes g c = c.in_ok-done.ensures.sink.same_flushes ∙ c.loop-line.invariant.2

@@ -1,4 +1,4 @@
-use Rattle.std.proofs.Common.{◌≡◌, ◌<◌, ◌++◌, [], ℕ, ℤ, pos, List, Option, None, All, false, length, replicate, sym, ap, ◌∙◌, subst, arith}
+use Rattle.std.proofs.Common.{rules, ◌≡◌, ◌<◌, [], ℕ, ℤ, pos, List, Option, None, All, false, length, replicate, sym, ap, ◌∙◌, subst, arith}
 use Rattle.std.proofs.lemmas.List.{length-replicate}
 use Rattle.std.proofs.lemmas.List.Elements.{All-nil}
 use Rattle.tick_num.specs.declared.differences.Diff.{Diff}
@@ -6,9 +6,8 @@ use Rattle.tick_num.specs.Differences.{InRange}
 use Rattle.diff_store.specs.Bounds.{Small}
 use Rattle.diff_store.specs.Chains.{Chained}
 use Rattle.diff_store.specs.Raising.{NoneWaits}
-use Rattle.diff_store.specs.Rows.{Rows}
 use Rattle.diff_store.specs.Standing.{Answered}
-use Rattle.diff_store.proofs.Stores.{empty_chained, empty_rows, empty_answered, none_waits}
+use Rattle.diff_store.proofs.Stores.{empty_chained, empty_answered, none_waits}
 use Rattle.diff_store.proofs.store.Store.reserve.Goals as goal
 
 pub invariant_of-result : goal.invariant_of-result
@@ -17,11 +16,9 @@ invariant_of-result c =
     let list = c.in_ok-with_capacity.ensures.items in
     let heads = c.in_ok-no_heads.ensures in
     let nexts = c.in_ok-with_capacity-2.ensures.items in
-    let values = c.in_ok-zeros.ensures in
-    let replaced = c.in_ok-with_capacity-3.ensures.items in
-    let rows : c.in_ok-with_capacity-3.field-0.items ++ c.in_ok-zeros.field-0.items ≡ replicate n (pos 0) = ap (λ (vs : List ℤ). vs ++ c.in_ok-zeros.field-0.items) replaced ∙ values in
-    let starts = c.in_ok-first_start.ensures.start in
-    let waits = c.in_ok-reserve.ensures in
+    let values : c.in_ok-vec.field-0.items ≡ replicate n (pos 0) = search rules in
+    let starts = c.in_ok-reserve.ensures.starts in
+    let waits = c.in_ok-reserve-2.ensures in
     record {
       few = c.requires.few;
       long = c.requires.long;
@@ -31,19 +28,19 @@ invariant_of-result c =
       chained = subst (λ (ds : List Diff). Chained n ds c.in_ok-no_heads.field-0.items c.in_ok-with_capacity-2.field-0.items) (sym list)
           (subst (λ (hs : List (Option ℕ)). Chained n [] hs c.in_ok-with_capacity-2.field-0.items) (sym heads)
           (subst (λ (ns : List (Option ℕ)). Chained n [] (replicate n None) ns) (sym nexts) (empty_chained n)));
-      rows = subst (λ (vs : List ℤ). Rows n vs c.in_ok-first_start.field-0.items) (sym rows) (subst (Rows n (replicate n (pos 0))) (sym starts) (empty_rows n));
-      starts = let a = ap length starts in let b = ap length list in omega (arith, a, b);
-      answered = subst (λ (ds : List Diff). Answered n ds (c.in_ok-with_capacity-3.field-0.items ++ c.in_ok-zeros.field-0.items) c.in_ok-first_start.field-0.items c.in_ok-vec-2.field-0.items) (sym list)
-          (subst (λ (vs : List ℤ). Answered n [] vs c.in_ok-first_start.field-0.items c.in_ok-vec-2.field-0.items) (sym rows)
-          (subst (λ (ss : List ℕ). Answered n [] (replicate n (pos 0)) ss c.in_ok-vec-2.field-0.items) (sym starts) (empty_answered n c.in_ok-vec-2.field-0.items)));
-      values = ap length values ∙ length-replicate n (pos 0);
-      causes = let l = c.in_ok-vec.ensures.len in omega (arith, l);
-      cycle = let l = c.in_ok-vec-2.ensures.len in omega (arith, l);
+      answered = subst (λ (ds : List Diff). Answered ds c.in_ok-reserve.field-0 c.in_ok-vec.field-0.items c.in_ok-vec-2.field-0.items c.in_ok-vec-4.field-0.items) (sym list)
+          (subst (λ (vs : List ℤ). Answered [] c.in_ok-reserve.field-0 vs c.in_ok-vec-2.field-0.items c.in_ok-vec-4.field-0.items) (sym values)
+          (empty_answered c.in_ok-reserve.field-0 c.in_ok-vec-2.field-0.items c.in_ok-vec-4.field-0.items n starts));
+      values = let l = c.in_ok-vec.ensures.len in omega (arith, l);
+      causes = let l = c.in_ok-vec-2.ensures.len in omega (arith, l);
+      chain = let l = c.in_ok-vec-3.ensures.len in omega (arith, l);
+      cycle = let l = c.in_ok-vec-4.ensures.len in omega (arith, l);
       start = omega arith;
+      pushes = c.in_ok-reserve.ensures.pushes;
+      starts = ap length starts ∙ sym (ap length list);
+      kept = c.in_ok-reserve.ensures.kept;
       waits = ap length waits ∙ length-replicate n false;
       none_waits = subst NoneWaits (sym waits) (none_waits n);
       list_room = c.in_ok-with_capacity.ensures.capacity;
       nexts_room = c.in_ok-with_capacity-2.ensures.capacity;
-      starts_room = let r = c.in_ok-first_start.ensures.room in omega (arith, r);
-      replaced_room = c.in_ok-with_capacity-3.ensures.capacity;
     }

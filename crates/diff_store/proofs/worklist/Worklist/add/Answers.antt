@@ -10,20 +10,25 @@ idle ws x now low e f = sym (e ∙ get_or_default ws x now false low) ∙ f
 
 pub unwrap-requires : goal.unwrap-requires
 unwrap-requires c =
-    let ws = c.self.inside.waits.items in
+    let s = c.self.inside in
+    let ws = s.waits.items in
     let low : c.args.variable < length ws = (let e = ap length c.self.view_is in omega (arith, e, c.requires)) in
-    let r = queued_room c.self.inside.queue.items ws c.args.variable low (idle ws c.args.variable c.index.result.now low c.index.ensures c.if-index.false) c.self.invariant.0 in
-    let b = c.self.invariant.1 in
-    c.push_back.ensures.succeeds (omega (arith, r, b))
+    let r = queued_room s.now.items s.later.items ws c.args.variable low (idle ws c.args.variable c.index.result.now low c.index.ensures c.if-index.false) c.self.invariant.0 in
+    let b = c.self.invariant.2 in
+    c.push.ensures.succeeds (omega (arith, r, b))
 
 pub invariant_of-self : goal.invariant_of-self
 invariant_of-self c =
-    let ws = c.self.inside.waits.items in
-    let low : c.args.variable < length ws = (let e = ap length c.self.view_is in omega (arith, e, c.requires)) in
-    let e : c.push_back.new.self.items ≡ c.self.inside.queue.items ++ c.args.variable ∷ [] = rw c.unwrap.ensures at c.push_back.ensures.items in
-    let size = length-set ws c.args.variable true in
+    let s = c.self.inside in
+    let ws = s.waits.items in
+    let x = c.args.variable in
+    let low : x < length ws = (let e = ap length c.self.view_is in omega (arith, e, c.requires)) in
+    let e : c.push.new.self.items ≡ s.later.items ++ x ∷ [] = rw c.unwrap.ensures at c.push.ensures.items in
+    let size = length-set ws x true in
     let b = c.self.invariant.1 in
-    let k = c.push_back.ensures.capacity in (
-      subst (λ q. Queued q (slice_set ws c.args.variable true)) (sym e) (queued_more c.self.inside.queue.items ws c.args.variable low (idle ws c.args.variable c.index.result.now low c.index.ensures c.if-index.false) c.self.invariant.0),
-      omega (arith, size, b, k),
+    let d = c.self.invariant.2 in
+    let k = c.push.ensures.capacity in (
+      subst (λ (q : List ℕ). Queued s.now.items q (slice_set ws x true)) (sym e) (queued_more s.now.items s.later.items ws x low (idle ws x c.index.result.now low c.index.ensures c.if-index.false) c.self.invariant.0),
+      omega (arith, size, b),
+      omega (arith, size, d, k),
     )
