@@ -41,7 +41,8 @@ HasFewest d None = NoSchedule d.mode
 HasFewest d (Some s) = IsSchedule d.mode (length s.starts) s × Fewest d.mode (length s.starts)
 
 -- A document with the fewest rounds of each mode, and a certificate: what it says is accepted, with these schedules alone, and so it is by `check`,
--- which reads up to 16,777,216 bytes; so no command refuses it. No search exceeded the budget
+-- which reads up to 16,777,216 bytes; so no command refuses it as a document (`tables` and `replay` still want a schedule for every mode). No search
+-- exceeded the budget
 pub record IsCertified (set : ModeSet) (budget : ℕ) (text : List ℕ) : Type 0 where
   pub plans : List (Option Schedule)
   pub fewest : AllZip HasFewest (doc_modes set) plans
