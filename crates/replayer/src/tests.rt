@@ -1,11 +1,15 @@
-//! Lines of a worked trace, and a trace that breaks off.
+//! Lines of a worked trace.
+
+ghost use Rattle.std.specs.Prelude.{◌≡◌, ◌+◌, ◌<◌, List};
+ghost use Rattle.world_core.specs.declared.happened.Happened.{Happened};
+ghost use Rattle.replayer.specs.Counting.{HasRoom, counts_of};
 
 use crate::tracer::Tracer;
 use app_graph::{App, ListOf, Message, Mode, ModeSet, Name, Task};
 use beacon_codec::Beacon;
 use std::alloc::{AllocError, Global};
 use std::test::Fail;
-use ttw_io::MemSink;
+use ttw_io::{Failed, MemSink};
 use world_core::Happened;
 
 fn named(alloc: Global, names: &[&str]) -> Result<ListOf<Name>, AllocError> {
@@ -77,12 +81,26 @@ fn opening(round: u16) -> Beacon {
     }
 }
 
+/// Tells one thing more to a tracer to which few were told.
+fn tell(tracer: &mut Tracer<'_>, happened: &Happened, out: &mut MemSink) -> Result<(), Failed>
+    requires few { tracer.old.counts.events < 100 }
+    requires room { HasRoom tracer.old.counts }
+    requires counted { (hs : List Happened) × (tracer.old.counts ≡ counts_of hs) }
+
+    ensures events { tracer.new.counts.events ≡ tracer.old.counts.events + 1 }
+    ensures room { HasRoom tracer.new.counts }
+    ensures counted { (hs : List Happened) × (tracer.new.counts ≡ counts_of hs) }
+{
+    tracer.tell(happened, out)
+}
+
 #[test]
 fn lines_of_a_worked_trace(rt: HostRuntime) -> Result<(), Fail> {
     let set = control_loop(rt.alloc())?;
     let mut tracer = Tracer::make(rt.alloc(), &set)?;
     let mut out = MemSink::make(rt.alloc(), 400, 7, Vec::new(rt.alloc()))?;
-    tracer.tell(
+    tell(
+        &mut tracer,
         &Happened::Beacon {
             at: 0,
             beacon: opening(1),
@@ -90,8 +108,13 @@ fn lines_of_a_worked_trace(rt: HostRuntime) -> Result<(), Fail> {
         },
         &mut out,
     )?;
-    tracer.tell(&Happened::Silent { at: 0, message: 1 }, &mut out)?;
-    tracer.tell(
+    tell(
+        &mut tracer,
+        &Happened::Silent { at: 0, message: 1 },
+        &mut out,
+    )?;
+    tell(
+        &mut tracer,
         &Happened::Off {
             at: 20,
             node: 2,
@@ -99,7 +122,8 @@ fn lines_of_a_worked_trace(rt: HostRuntime) -> Result<(), Fail> {
         },
         &mut out,
     )?;
-    tracer.tell(
+    tell(
+        &mut tracer,
         &Happened::Void {
             at: 21,
             node: 2,
@@ -107,7 +131,8 @@ fn lines_of_a_worked_trace(rt: HostRuntime) -> Result<(), Fail> {
         },
         &mut out,
     )?;
-    tracer.tell(
+    tell(
+        &mut tracer,
         &Happened::Ended {
             at: 23,
             node: 1,
@@ -116,7 +141,8 @@ fn lines_of_a_worked_trace(rt: HostRuntime) -> Result<(), Fail> {
         },
         &mut out,
     )?;
-    tracer.tell(
+    tell(
+        &mut tracer,
         &Happened::Beacon {
             at: 23,
             beacon: opening(2),
@@ -124,8 +150,13 @@ fn lines_of_a_worked_trace(rt: HostRuntime) -> Result<(), Fail> {
         },
         &mut out,
     )?;
-    tracer.tell(&Happened::Silent { at: 23, message: 0 }, &mut out)?;
-    tracer.tell(
+    tell(
+        &mut tracer,
+        &Happened::Silent { at: 23, message: 0 },
+        &mut out,
+    )?;
+    tell(
+        &mut tracer,
         &Happened::Ended {
             at: 48,
             node: 0,
@@ -134,8 +165,16 @@ fn lines_of_a_worked_trace(rt: HostRuntime) -> Result<(), Fail> {
         },
         &mut out,
     )?;
-    tracer.tell(&Happened::Requested { at: 48, mode: 0 }, &mut out)?;
-    tracer.tell(&Happened::Restarted { at: 48, node: 2 }, &mut out)?;
+    tell(
+        &mut tracer,
+        &Happened::Requested { at: 48, mode: 0 },
+        &mut out,
+    )?;
+    tell(
+        &mut tracer,
+        &Happened::Restarted { at: 48, node: 2 },
+        &mut out,
+    )?;
     tracer.done(&mut out)?;
     assert_eq!(rt;
         out.bytes(),

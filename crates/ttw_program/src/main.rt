@@ -7,6 +7,8 @@ mod checking;
 #[cfg(test)]
 mod drill_tests;
 mod drilling;
+#[cfg(test)]
+mod drop_tests;
 mod ending;
 mod fault_lines;
 mod guarding;

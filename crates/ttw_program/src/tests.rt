@@ -188,7 +188,7 @@ fn loop_budget(rt: HostRuntime) -> Result<(), Fail> {
 }
 
 /// Two tasks on one node that leave no room for each other.
-const SHARE: &str =
+pub(crate) const SHARE: &str =
     "slots = 1\nround = 3\ngap = 12\nhost = \"n0\"\nnodes = [\"n0\"]\n[[mode]]\nname = \"run\"\n[[mode.app]]\nname = \"a\"\nperiod = 4\ndeadline = 4\n[[mode.app.task]]\nname = \"x\"\nnode = \"n0\"\nwcet = 1\n[[mode.app]]\nname = \"b\"\nperiod = 6\ndeadline = 6\n[[mode.app.task]]\nname = \"y\"\nnode = \"n0\"\nwcet = 2\n";
 
 #[test]
