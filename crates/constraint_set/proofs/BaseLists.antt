@@ -14,8 +14,6 @@ use Rattle.std.proofs.lemmas.List.Elements.{Contains-get_or}
 use Rattle.sched_model.proofs.Graph.{message_edge}
 use Rattle.sched_model.proofs.Lists.{flat_below-suc, length-below, get_or-map_below}
 use Rattle.std.proofs.lemmas.List.{length-map, map-append}
-use Rattle.sched_model.specs.declared.links.TaskSet.{TaskSet}
-use Rattle.sched_model.specs.Links.{sources_of}
 
 -- one part more
 pub below_step : {X : Type 0} (f : ℕ → List X) (n : ℕ) (start old new : List X) → old ≡ start ++ flat_map f (below n) → new ≡ old ++ f n → new ≡ start ++ flat_map f (below (n + 1))
@@ -90,12 +88,12 @@ unfolding decisions
 two_parts m l0 l1 l2 e0 e1 e2 =
     e2 ∙ ap (λ (l : List Decision). l ++ flat_map (orders m) (below (length m.tasks))) (e1 ∙ ap (λ (l : List Decision). l ++ flat_map (serves m) (below (length m.messages))) e0)
 
--- ---- the tasks that reach each task, as a list
-pub sources_length : (m : PlainMode) (xs : List TaskSet) → xs ≡ map (sources_of m) (below (length m.tasks)) → length xs ≡ length m.tasks
-sources_length m xs e = ap length e ∙ length-map (below (length m.tasks)) (sources_of m) ∙ length-below (length m.tasks)
+-- ---- a list with a value for each of the numbers below n
+pub listed_length : {X : Type 0} (f : ℕ → X) (n : ℕ) (xs : List X) → xs ≡ map f (below n) → length xs ≡ n
+listed_length f n xs e = ap length e ∙ length-map (below n) f ∙ length-below n
 
-pub sources_at : (m : PlainMode) (xs : List TaskSet) (i : ℕ) (d : TaskSet) → xs ≡ map (sources_of m) (below (length m.tasks)) → i < length m.tasks → get_or xs i d ≡ sources_of m i
-sources_at m xs i d e l = ap (λ (ys : List TaskSet). get_or ys i d) e ∙ get_or-map_below (sources_of m) (length m.tasks) i d l
+pub listed_at : {X : Type 0} (f : ℕ → X) (n : ℕ) (xs : List X) (i : ℕ) (d : X) → xs ≡ map f (below n) → i < n → get_or xs i d ≡ f i
+listed_at {X} f n xs i d e l = ap (λ (ys : List X). get_or ys i d) e ∙ get_or-map_below f n i d l
 
 pub message_some : (m : PlainMode) (i : ℕ) → IsValid m → i < length m.messages → 0 < (message_at m i).period
 message_some m i ok l = let p = ok.periods _ (ok.message_period i l) in omega (arith, p)

@@ -1,5 +1,6 @@
 mod FlatLists
 mod BaseLists
+mod ChainsBehind
 mod Bounded
 mod Loadings
 pub mod Counts

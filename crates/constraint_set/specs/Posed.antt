@@ -1,9 +1,13 @@
 -- The constraint problem of a mode and a number of rounds, and what a problem in code keeps beside it
-use Rattle.std.specs.Prelude.{◌≡◌, ℕ, ◌≤◌, List}
+use Rattle.std.specs.Prelude.{◌≡◌, ℕ, ◌+◌, ◌≤◌, Bool, List, length, map}
+use Rattle.std.specs.List.{flat_map}
 use Rattle.tick_num.specs.declared.differences.Diff.{Diff}
+use Rattle.tick_num.specs.Differences.{diff}
+use Rattle.sched_model.specs.Numbers.{below}
 use Rattle.sched_model.specs.PlainMode.{PlainMode, hyper, instances, most_rounds}
-use Rattle.sched_model.specs.ConstraintProblem.{Decision, base, decisions}
+use Rattle.sched_model.specs.ConstraintProblem.{Decision, base, decisions, of_first}
 use Rattle.sched_model.specs.ModeLimits.{IsLimited}
+use Rattle.sched_model.specs.TaskGraph.{first}
 use Rattle.sched_model.specs.ValidMode.{IsValid}
 
 -- a mode, and how many rounds a hyperperiod has
@@ -11,14 +15,24 @@ pub record Posed : Type 0 where
   pub mode : PlainMode
   pub rounds : ℕ
 
--- the mode is one of an accepted file, there is room for the rounds, and the hyperperiod, the message instances, the constraints that always
--- hold and the decisions are those of the problem
-pub record Ready (p : Posed) (h n : ℕ) (ds : List Diff) (es : List Decision) : Type 0 where
+-- the constraints of the chains, in which tasks go by their places
+abbrev pub chains_of : PlainMode → List Diff
+chains_of m = flat_map (of_first m 0) (below (length m.tasks))
+
+-- the same constraint behind the variables of r rounds
+abbrev pub behind : ℕ → Diff → Diff
+behind r d = diff (r + d.x) (r + d.y) d.c
+
+-- the mode is one of an accepted file, there is room for the rounds, and the hyperperiod, the message instances, the first tasks, the
+-- chains, the constraints that always hold and the decisions are those of the problem
+pub record Ready (p : Posed) (h n : ℕ) (fs : List Bool) (cs ds : List Diff) (es : List Decision) : Type 0 where
   pub valid : IsValid p.mode
   pub limits : IsLimited p.mode
   pub some : 1 ≤ p.rounds
   pub most : p.rounds ≤ most_rounds p.mode
   pub ticks : h ≡ hyper p.mode
   pub count : n ≡ instances p.mode
+  pub firsts : fs ≡ map (first p.mode) (below (length p.mode.tasks))
+  pub chains : cs ≡ chains_of p.mode
   pub list : ds ≡ base p.mode p.rounds
   pub all : es ≡ decisions p.mode

@@ -4,14 +4,14 @@ ghost use Rattle.std.specs.Prelude.{◌≡◌, [], ◌∷◌, ◌++◌, ◌-◌,
 ghost use Rattle.std.specs.List.{flat_map};
 ghost use Rattle.sched_model.specs.Numbers.{below};
 ghost use Rattle.sched_model.specs.PlainMode.{hyper};
-ghost use Rattle.sched_model.specs.ConstraintProblem.{base, closes_var, next_round, of_chain, of_consumer, of_first, of_message, of_producer, of_task, opens_var, turn};
-ghost use Rattle.sched_model.specs.Links.{graph_of, sources_of};
+ghost use Rattle.sched_model.specs.ConstraintProblem.{base, closes_var, next_round, of_consumer, of_message, of_producer, of_task, opens_var, turn};
 ghost use Rattle.sched_model.specs.ModeLimits.{IsLimited};
+ghost use Rattle.sched_model.specs.TaskGraph.{first};
 ghost use Rattle.sched_model.specs.ValidMode.{IsValid};
+ghost use Rattle.constraint_set.specs.Posed.{behind, chains_of};
 
 use crate::bounds::{at_least, at_most, at_most_less};
 use crate::flat::FlatMode;
-use sched_model::{TaskGraph, TaskSet};
 use std::alloc::{AllocError, Global};
 use tick_num::Diff;
 
@@ -100,19 +100,19 @@ fn add_turn(
 fn add_task(
     list: &mut Vec<Diff>,
     mode: &FlatMode,
-    graph: &TaskGraph,
+    firsts: &[bool],
     rounds: u32,
     task: u32,
 ) -> Result<(), AllocError>
     requires limits { IsLimited mode.now }
     requires valid { IsValid mode.now }
-    requires graph { graph.now ≡ graph_of mode.now }
+    requires firsts { firsts.now ≡ map (first mode.now) (below (length mode.now.tasks)) }
     requires rounds { rounds ≤ 256 }
     requires task { task < length mode.now.tasks }
     ensures { IfOk result (λ _. list.new.items ≡ list.old.items ++ of_task mode.now rounds task) }
 {
     let start = at_most(0, rounds + task, 0);
-    if !graph.is_first(task as usize) {
+    if !firsts[task as usize] {
         add_one(list, start)?;
         return Ok(());
     }
@@ -125,17 +125,17 @@ fn add_task(
 fn add_tasks(
     list: &mut Vec<Diff>,
     mode: &FlatMode,
-    graph: &TaskGraph,
+    firsts: &[bool],
     rounds: u32,
 ) -> Result<(), AllocError>
     requires limits { IsLimited mode.now }
     requires valid { IsValid mode.now }
-    requires graph { graph.now ≡ graph_of mode.now }
+    requires firsts { firsts.now ≡ map (first mode.now) (below (length mode.now.tasks)) }
     requires rounds { rounds ≤ 256 }
     ensures { IfOk result (λ _. list.new.items ≡ list.old.items ++ flat_map (of_task mode.now rounds) (below (length mode.now.tasks))) }
 {
     for task in 0..mode.task_count() {
-        add_task(list, mode, graph, rounds, task)?;
+        add_task(list, mode, firsts, rounds, task)?;
     }
     Ok(())
 }
@@ -276,147 +276,59 @@ fn add_messages(list: &mut Vec<Diff>, mode: &FlatMode, rounds: u32) -> Result<()
     Ok(())
 }
 
-/// The tasks that reach each task, in file order.
-fn all_sources(
-    alloc: Global,
-    mode: &FlatMode,
-    graph: &TaskGraph,
-) -> Result<Vec<TaskSet>, AllocError>
-    requires few { length mode.now.tasks ≤ 128 }
-    requires graph { graph.now ≡ graph_of mode.now }
-    ensures { IfOk result (λ v. v.items ≡ map (sources_of mode.now) (below (length mode.now.tasks))) }
-{
-    let mut all = Vec::new(alloc);
-    for target in 0..mode.task_count() {
-        all.push(graph.sources(target as usize))?;
-    }
-    Ok(all)
-}
-
-/// Adds the constraint of a chain, where the task at the place `end` is a last one and the first task reaches it.
-#[tactic(auto, using(crate::proofs::BaseLists::task_times))]
-fn add_chain(
-    list: &mut Vec<Diff>,
-    mode: &FlatMode,
-    graph: &TaskGraph,
-    rounds: u32,
-    start: u32,
-    end: u32,
-    sources: TaskSet,
-) -> Result<(), AllocError>
-    requires limits { IsLimited mode.now }
-    requires valid { IsValid mode.now }
-    requires graph { graph.now ≡ graph_of mode.now }
+/// Adds the constraint of a chain, in which tasks go by their places.
+fn add_chain(list: &mut Vec<Diff>, rounds: u32, chain: Diff) -> Result<(), AllocError>
     requires rounds { rounds ≤ 256 }
-    requires start { start < length mode.now.tasks }
-    requires end { end < length mode.now.tasks }
-    requires sources { sources ≡ sources_of mode.now end }
-    ensures { IfOk result (λ _. list.new.items ≡ list.old.items ++ of_chain mode.now rounds start end) }
+    requires end { chain.x < 128 }
+    requires start { chain.y < 128 }
+    ensures { IfOk result (λ _. list.new.items ≡ list.old.items ++ behind rounds chain ∷ []) }
 {
-    if !graph.is_last(end as usize) {
-        return Ok(());
-    }
-    if !sources.has(start as usize) {
-        return Ok(());
-    }
-    let deadline = mode.task(start).deadline();
-    let wcet = mode.task(end).wcet();
     add_one(
         list,
-        at_most_less(rounds + end, rounds + start, deadline, wcet),
+        Diff {
+            x: rounds + chain.x,
+            y: rounds + chain.y,
+            c: chain.c,
+        },
     )?;
     Ok(())
 }
 
-/// Adds the constraints of the chains of a task.
-fn add_chains_of(
-    list: &mut Vec<Diff>,
-    mode: &FlatMode,
-    graph: &TaskGraph,
-    rounds: u32,
-    start: u32,
-    sources: &[TaskSet],
-) -> Result<(), AllocError>
-    requires limits { IsLimited mode.now }
-    requires valid { IsValid mode.now }
-    requires graph { graph.now ≡ graph_of mode.now }
-    requires rounds { rounds ≤ 256 }
-    requires start { start < length mode.now.tasks }
-    requires sources { sources.now ≡ map (sources_of mode.now) (below (length mode.now.tasks)) }
-    ensures { IfOk result (λ _. list.new.items ≡ list.old.items ++ flat_map (of_chain mode.now rounds start) (below (length mode.now.tasks))) }
-{
-    for end in 0..mode.task_count() {
-        add_chain(list, mode, graph, rounds, start, end, sources[end as usize])?;
-    }
-    Ok(())
-}
-
-/// Adds the constraints of the chains of a first task.
-fn add_first(
-    list: &mut Vec<Diff>,
-    mode: &FlatMode,
-    graph: &TaskGraph,
-    rounds: u32,
-    start: u32,
-    sources: &[TaskSet],
-) -> Result<(), AllocError>
-    requires limits { IsLimited mode.now }
-    requires valid { IsValid mode.now }
-    requires graph { graph.now ≡ graph_of mode.now }
-    requires rounds { rounds ≤ 256 }
-    requires start { start < length mode.now.tasks }
-    requires sources { sources.now ≡ map (sources_of mode.now) (below (length mode.now.tasks)) }
-    ensures { IfOk result (λ _. list.new.items ≡ list.old.items ++ of_first mode.now rounds start) }
-{
-    if graph.is_first(start as usize) {
-        add_chains_of(list, mode, graph, rounds, start, sources)?;
-        return Ok(());
-    }
-    Ok(())
-}
-
 /// Adds the constraints of the chains.
-fn add_chains(
-    list: &mut Vec<Diff>,
-    mode: &FlatMode,
-    graph: &TaskGraph,
-    rounds: u32,
-    sources: &[TaskSet],
-) -> Result<(), AllocError>
-    requires limits { IsLimited mode.now }
-    requires valid { IsValid mode.now }
-    requires graph { graph.now ≡ graph_of mode.now }
+fn add_chains(list: &mut Vec<Diff>, rounds: u32, chains: &[Diff]) -> Result<(), AllocError>
     requires rounds { rounds ≤ 256 }
-    requires sources { sources.now ≡ map (sources_of mode.now) (below (length mode.now.tasks)) }
-    ensures { IfOk result (λ _. list.new.items ≡ list.old.items ++ flat_map (of_first mode.now rounds) (below (length mode.now.tasks))) }
+    requires tasks { All (λ d. (d.x < 128) × (d.y < 128)) chains.now }
+    ensures { IfOk result (λ _. list.new.items ≡ list.old.items ++ map (behind rounds) chains.now) }
 {
-    for start in 0..mode.task_count() {
-        add_first(list, mode, graph, rounds, start, sources)?;
+    for chain in chains {
+        add_chain(list, rounds, *chain)?;
     }
     Ok(())
 }
 
-/// The constraints that always hold, for so many rounds in a hyperperiod of so many ticks.
+/// The constraints that always hold, for so many rounds in a hyperperiod of so many ticks. Of the mode's tasks `firsts`
+/// says which are first ones, and `chains` are the constraints of its chains.
 pub(crate) fn make_base(
     alloc: Global,
     mode: &FlatMode,
-    graph: &TaskGraph,
+    firsts: &[bool],
+    chains: &[Diff],
     rounds: u32,
     ticks: u64,
 ) -> Result<Vec<Diff>, AllocError>
     requires limits { IsLimited mode.now }
     requires valid { IsValid mode.now }
-    requires graph { graph.now ≡ graph_of mode.now }
+    requires firsts { firsts.now ≡ map (first mode.now) (below (length mode.now.tasks)) }
+    requires chains { chains.now ≡ chains_of mode.now }
     requires rounds { (1 ≤ rounds) × (rounds ≤ 256) }
     requires ticks { ticks ≡ hyper mode.now }
     ensures { IfOk result (λ v. v.items ≡ base mode.now rounds) }
 {
-    let sources = all_sources(alloc, mode, graph)?;
     let mut list = Vec::new(alloc);
     add_rounds(&mut list, mode, rounds)?;
     add_turn(&mut list, mode, rounds, ticks)?;
-    add_tasks(&mut list, mode, graph, rounds)?;
+    add_tasks(&mut list, mode, firsts, rounds)?;
     add_messages(&mut list, mode, rounds)?;
-    add_chains(&mut list, mode, graph, rounds, sources.as_slice())?;
+    add_chains(&mut list, rounds, chains)?;
     Ok(list)
 }

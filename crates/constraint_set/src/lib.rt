@@ -3,6 +3,7 @@
 
 mod base;
 mod bounds;
+mod chains;
 mod choices;
 mod decisions;
 mod flat;

@@ -1,6 +1,6 @@
 //! The constraint problem of a mode and a number of rounds.
 
-ghost use Rattle.std.specs.Prelude.{◌≡◌, ◌-◌, ◌*◌, ◌<◌, ◌≤◌, ◌↔◌, IfNone, IfOk, IfSome, IsTrue, length, pos, slice_index_or};
+ghost use Rattle.std.specs.Prelude.{◌≡◌, ◌-◌, ◌*◌, ◌<◌, ◌≤◌, ◌↔◌, IfNone, IfOk, IfSome, IsTrue, OnErr, OnOk, length, pos, slice_index_or};
 ghost use Rattle.app_graph.specs.Validation.{KeepsRules};
 ghost use Rattle.sched_model.specs.PlainMode.{hyper, instances, most_rounds, plain_at};
 ghost use Rattle.sched_model.specs.ConstraintProblem.{alternatives, base, chosen, decisions, order, vars};
@@ -14,6 +14,7 @@ ghost use Rattle.constraint_set.specs.Decided.{AllRoom, FirstOver, MayChoose};
 ghost use Rattle.constraint_set.specs.Loads.{Within, round_of};
 
 use crate::base::make_base;
+use crate::chains::{find_chains, find_firsts};
 use crate::choices::{alternatives_at, diffs_at, diffs_of};
 use crate::decisions::{Decisions, make_decisions};
 use crate::flat::{FlatMode, flatten};
@@ -32,6 +33,8 @@ pub struct Problem {
     rounds: u32,
     ticks: u64,
     instances: u64,
+    firsts: Vec<bool>,
+    chains: Vec<Diff>,
     base: Vec<Diff>,
     decisions: Decisions,
 }
@@ -43,7 +46,7 @@ impl Model for Problem {
 
     ghost view = { λ p. record { mode = p.mode; rounds = p.rounds } };
 
-    ghost invariant = { λ p. Ready (record { mode = p.mode; rounds = p.rounds }) p.ticks p.instances p.base.items p.decisions };
+    ghost invariant = { λ p. Ready (record { mode = p.mode; rounds = p.rounds }) p.ticks p.instances p.firsts.items p.chains.items p.base.items p.decisions };
 }
 
 /// The hyperperiod of the mode, in ticks.
@@ -69,16 +72,52 @@ impl Problem {
         let count = instances(set, mode);
         let rounds = rounds as u32;
         let graph = TaskGraph::of(set, mode);
-        let base = make_base(alloc, &flat, &graph, rounds, ticks)?;
+        let firsts = find_firsts(alloc, &flat, &graph)?;
+        let chains = find_chains(alloc, &flat, &graph)?;
+        let base = make_base(
+            alloc,
+            &flat,
+            firsts.as_slice(),
+            chains.as_slice(),
+            rounds,
+            ticks,
+        )?;
         let decisions = make_decisions(alloc, &flat, ticks)?;
         Ok(Problem {
             mode: flat,
             rounds,
             ticks,
             instances: count,
+            firsts,
+            chains,
             base,
             decisions,
         })
+    }
+
+    /// Goes over to another number of rounds, from 1 to the most that a hyperperiod has room for. What does not depend on
+    /// it is kept. Without memory for the constraints the problem stays as it is.
+    pub fn set_rounds(&mut self, rounds: u64) -> Result<(), AllocError>
+        requires some { 1 ≤ rounds }
+        requires most { rounds ≤ most_rounds self.old.mode }
+
+        ensures moved { OnOk result (self.new ≡ record { mode = self.old.mode; rounds = rounds }) }
+
+        ensures kept { OnErr result (self.new ≡ self.old) }
+    {
+        let alloc = *self.base.allocator();
+        let next = rounds as u32;
+        let base = make_base(
+            alloc,
+            &self.mode,
+            self.firsts.as_slice(),
+            self.chains.as_slice(),
+            next,
+            self.ticks,
+        )?;
+        self.rounds = next;
+        self.base = base;
+        Ok(())
     }
 
     /// How many variables it has: one for each round's start and each task's, and two for each message.

@@ -10,6 +10,7 @@ use Rattle.proof_tree.specs.declared.tree.Tree.{Tree}
 use Rattle.std.specs.Prelude.{⊤}
 use Rattle.sched_model.specs.ValidMode.{IsValid}
 use Rattle.proof_tree.specs.OwnDocument.{OwnTreesFrom, OwnAnswer}
+use Rattle.constraint_set.specs.Posed.{Posed}
 use Rattle.planner.specs.declared.rounds.Tried.{Tried}
 use Rattle.planner.specs.declared.rounds.Tried.TheVariants as tries
 use Rattle.planner.specs.Laws.{PlansAreBest}
@@ -22,6 +23,10 @@ pub record Refuting (m : PlainMode) (budget : ℕ) (trees : List Tree) (left k :
   pub within : left ≤ budget
   pub costs : (n v : ℕ) → k + n ≡ most_rounds m → CostFrom m (k + 1) n v → Cost m (budget - left + v)
   pub spends : (n r : ℕ) → k + n ≡ most_rounds m → SpentFrom m (k + 1) n budget (budget - left) r → SpentAt m budget r
+
+-- what the problem has after it went over to the next number of rounds
+pub tried_here : (m : PlainMode) (k left : ℕ) (old new : Posed) (tried : Tried) → old.mode ≡ m → new ≡ record { mode = old.mode; rounds = k + 1 } → IsTried new.mode new.rounds left tried → IsTried m (k + 1) left tried
+tried_here m k left old new tried e is t = subst (λ (x : PlainMode). IsTried x (k + 1) left tried) e (subst (λ (x : Posed). IsTried x.mode x.rounds left tried) is t)
 
 module _ (m : PlainMode) (budget : ℕ) where
   tree_more : (r : ℕ) (trees : List Tree) (tree : Tree) → OwnTreesFrom m r trees → OwnTree m (r + length trees) tree.nodes tree.refs × (¬ (LeadsAt m (r + length trees))) → OwnTreesFrom m r (trees ++ tree ∷ [])

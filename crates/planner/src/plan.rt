@@ -8,6 +8,7 @@ ghost use Rattle.planner.specs.Plans.{IsPlanned};
 use crate::laws::plans_are_best;
 use crate::rounds::{Tried, try_rounds};
 use app_graph::{ListOf, ModeSet};
+use constraint_set::Problem;
 use proof_tree::{ModePart, Tree};
 use sched_model::laws::kept_modes_are_valid;
 use sched_model::{Schedule, most_rounds};
@@ -53,8 +54,14 @@ pub fn plan_mode(
     plans_are_best();
     let mut refuted = Vec::new(alloc);
     let mut left = budget;
-    for before in 0..most_rounds(set, mode) {
-        match try_rounds(alloc, set, mode, before + 1, left)? {
+    let most = most_rounds(set, mode);
+    if most == 0 {
+        return Ok(Planned::Made(part(refuted, None), 0));
+    }
+    let mut problem = Problem::make(alloc, set, mode, 1)?;
+    for before in 0..most {
+        problem.set_rounds(before + 1)?;
+        match try_rounds(alloc, &problem, left)? {
             Tried::Made { schedule, visited } => {
                 let cost = budget - left + visited;
                 return Ok(Planned::Made(part(refuted, Some(schedule)), cost));

@@ -1,11 +1,8 @@
 //! One number of rounds.
 
-ghost use Rattle.std.specs.Prelude.{◌<◌, ◌≤◌, length, IfOk};
-ghost use Rattle.app_graph.specs.Validation.{KeepsRules};
-ghost use Rattle.sched_model.specs.PlainMode.{most_rounds, plain_at};
+ghost use Rattle.std.specs.Prelude.{IfOk};
 ghost use Rattle.planner.specs.Plans.{IsTried};
 
-use app_graph::ModeSet;
 use branch_search::{Answer, search};
 use constraint_set::Problem;
 use proof_tree::Tree;
@@ -23,22 +20,11 @@ pub(crate) enum Tried {
     Spent,
 }
 
-/// Searches a schedule of so many rounds, from 1 on, over at most `budget` prefixes.
-pub(crate) fn try_rounds(
-    alloc: Global,
-    set: &ModeSet,
-    mode: u32,
-    rounds: u64,
-    budget: u64,
-) -> Result<Tried, AllocError>
-    requires rules { KeepsRules set.now }
-    requires mode { mode < length set.now.modes }
-    requires some { 1 ≤ rounds }
-    requires room { rounds ≤ most_rounds (plain_at set.now mode) }
-    ensures { IfOk result (IsTried (plain_at set.now mode) rounds budget) }
+/// Searches a schedule of the problem's number of rounds, over at most `budget` prefixes.
+pub(crate) fn try_rounds(alloc: Global, problem: &Problem, budget: u64) -> Result<Tried, AllocError>
+    ensures { IfOk result (IsTried problem.now.mode problem.now.rounds budget) }
 {
-    let problem = Problem::make(alloc, set, mode, rounds)?;
-    match search(alloc, &problem, budget)? {
+    match search(alloc, problem, budget)? {
         Answer::Found {
             choice,
             values,

@@ -15,6 +15,18 @@ overflow_cast-rounds c =
     let few : c.args.rounds ≤ 256 = omega (arith, low, c.requires.most) in
     search rules
 
+pub find_firsts-requires-clause-few : goal.find_firsts-requires-clause-few
+find_firsts-requires-clause-few c =
+    (subst (λ (m : PlainMode). IsLimited m) (sym c.in_ok-flat.ensures) (mode_at_limited c.args.set.now c.requires.rules c.args.mode c.requires.mode)).tasks
+
+pub find_chains-requires-clause-limits : goal.find_chains-requires-clause-limits
+find_chains-requires-clause-limits c =
+    subst (λ (m : PlainMode). IsLimited m) (sym c.in_ok-flat.ensures) (mode_at_limited c.args.set.now c.requires.rules c.args.mode c.requires.mode)
+
+pub find_chains-requires-clause-valid : goal.find_chains-requires-clause-valid
+find_chains-requires-clause-valid c =
+    subst (λ (m : PlainMode). IsValid m) (sym c.in_ok-flat.ensures) (mode_at_valid c.args.set.now c.requires.rules c.args.mode c.requires.mode)
+
 pub make_base-requires-clause-limits : goal.make_base-requires-clause-limits
 make_base-requires-clause-limits c =
     subst (λ (m : PlainMode). IsLimited m) (sym c.in_ok-flat.ensures) (mode_at_limited c.args.set.now c.requires.rules c.args.mode c.requires.mode)
@@ -46,6 +58,8 @@ invariant_of-result c =
       most = subst (λ (m : PlainMode). c.args.rounds ≤ most_rounds m) e c.requires.most;
       ticks = c.ticks_of-ticks.ensures ∙ ap hyper e;
       count = c.instances-count.ensures ∙ ap (λ (m : PlainMode). instances m) e;
+      firsts = c.in_ok-firsts.ensures;
+      chains = c.in_ok-chains.ensures;
       list = c.in_ok-base.ensures;
       all = c.in_ok-decisions.ensures;
     }
