@@ -23,16 +23,19 @@ chains_of m = flat_map (of_first m 0) (below (length m.tasks))
 abbrev pub behind : ℕ → Diff → Diff
 behind r d = diff (r + d.x) (r + d.y) d.c
 
--- the mode is one of an accepted file, there is room for the rounds, and the hyperperiod, the message instances, the first tasks, the
--- chains, the constraints that always hold and the decisions are those of the problem
-pub record Ready (p : Posed) (h n : ℕ) (fs : List Bool) (cs ds : List Diff) (es : List Decision) : Type 0 where
-  pub valid : IsValid p.mode
-  pub limits : IsLimited p.mode
+-- the mode is one of an accepted file, and the hyperperiod, the message instances and the first tasks are those of the mode
+pub record IsFramed (m : PlainMode) (h n : ℕ) (fs : List Bool) : Type 0 where
+  pub valid : IsValid m
+  pub limits : IsLimited m
+  pub ticks : h ≡ hyper m
+  pub count : n ≡ instances m
+  pub firsts : fs ≡ map (first m) (below (length m.tasks))
+
+-- there is room for the rounds, and the chains, the constraints that always hold and the decisions are those of the problem
+pub record Ready (p : Posed) (cs ds : List Diff) (es : List Decision) : Type 0 where
   pub some : 1 ≤ p.rounds
   pub most : p.rounds ≤ most_rounds p.mode
-  pub ticks : h ≡ hyper p.mode
-  pub count : n ≡ instances p.mode
-  pub firsts : fs ≡ map (first p.mode) (below (length p.mode.tasks))
+  pub few : p.rounds ≤ 256
   pub chains : cs ≡ chains_of p.mode
   pub list : ds ≡ base p.mode p.rounds
   pub all : es ≡ decisions p.mode

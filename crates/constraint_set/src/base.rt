@@ -11,29 +11,9 @@ ghost use Rattle.sched_model.specs.ValidMode.{IsValid};
 ghost use Rattle.constraint_set.specs.Posed.{behind, chains_of};
 
 use crate::bounds::{at_least, at_most, at_most_less};
-use crate::flat::FlatMode;
+use crate::frame::Frame;
 use std::alloc::{AllocError, Global};
 use tick_num::Diff;
-
-/// The variable of the opening of a message's first window.
-pub(crate) fn opens_var(mode: &FlatMode, rounds: u32, message: u32) -> u32
-    requires limits { IsLimited mode.now }
-    requires rounds { rounds ≤ 256 }
-    requires message { message < length mode.now.messages }
-    ensures { result ≡ opens_var mode.now rounds message }
-{
-    rounds + mode.task_count() + 2 * message
-}
-
-/// The variable of its closing.
-pub(crate) fn closes_var(mode: &FlatMode, rounds: u32, message: u32) -> u32
-    requires limits { IsLimited mode.now }
-    requires rounds { rounds ≤ 256 }
-    requires message { message < length mode.now.messages }
-    ensures { result ≡ closes_var mode.now rounds message }
-{
-    opens_var(mode, rounds, message) + 1
-}
 
 /// Adds one constraint.
 fn add_one(list: &mut Vec<Diff>, one: Diff) -> Result<(), AllocError>
@@ -53,145 +33,106 @@ fn add_two(list: &mut Vec<Diff>, one: Diff, two: Diff) -> Result<(), AllocError>
 }
 
 /// Adds the constraints of the rounds at the places `j` and `j + 1`.
-fn add_next_round(list: &mut Vec<Diff>, mode: &FlatMode, j: u32) -> Result<(), AllocError>
-    requires limits { IsLimited mode.now }
+fn add_next_round(list: &mut Vec<Diff>, frame: &Frame, j: u32) -> Result<(), AllocError>
     requires place { j < 256 }
-    ensures { IfOk result (λ _. list.new.items ≡ list.old.items ++ next_round mode.now j) }
+    ensures { IfOk result (λ _. list.new.items ≡ list.old.items ++ next_round frame.now j) }
 {
-    let after = at_least(j, j + 1, mode.round());
-    let within = at_most(j + 1, j, mode.gap());
+    let after = at_least(j, j + 1, frame.round());
+    let within = at_most(j + 1, j, frame.gap());
     add_two(list, after, within)?;
     Ok(())
 }
 
 /// Adds the constraints of each two rounds that follow one another.
-fn add_rounds(list: &mut Vec<Diff>, mode: &FlatMode, rounds: u32) -> Result<(), AllocError>
-    requires limits { IsLimited mode.now }
+fn add_rounds(list: &mut Vec<Diff>, frame: &Frame, rounds: u32) -> Result<(), AllocError>
     requires rounds { (1 ≤ rounds) × (rounds ≤ 256) }
-    ensures { IfOk result (λ _. list.new.items ≡ list.old.items ++ flat_map (next_round mode.now) (below (rounds - 1))) }
+    ensures { IfOk result (λ _. list.new.items ≡ list.old.items ++ flat_map (next_round frame.now) (below (rounds - 1))) }
 {
     for j in 0..rounds - 1 {
-        add_next_round(list, mode, j)?;
+        add_next_round(list, frame, j)?;
     }
     Ok(())
 }
 
 /// Adds the constraints of the last round and of the first one of the next hyperperiod.
-fn add_turn(
-    list: &mut Vec<Diff>,
-    mode: &FlatMode,
-    rounds: u32,
-    ticks: u64,
-) -> Result<(), AllocError>
-    requires limits { IsLimited mode.now }
+fn add_turn(list: &mut Vec<Diff>, frame: &Frame, rounds: u32) -> Result<(), AllocError>
     requires rounds { (1 ≤ rounds) × (rounds ≤ 256) }
-    requires ticks { ticks ≡ hyper mode.now }
-    requires most { ticks ≤ 1000000000000 }
-    ensures { IfOk result (λ _. list.new.items ≡ list.old.items ++ turn mode.now rounds) }
+    ensures { IfOk result (λ _. list.new.items ≡ list.old.items ++ turn frame.now rounds) }
 {
-    let end = at_most_less(rounds - 1, 0, ticks, mode.round());
-    let next = at_most_less(0, rounds - 1, mode.gap(), ticks);
+    let ticks = frame.ticks();
+    let end = at_most_less(rounds - 1, 0, ticks, frame.round());
+    let next = at_most_less(0, rounds - 1, frame.gap(), ticks);
     add_two(list, end, next)?;
     Ok(())
 }
 
 /// Adds the constraints of the task's first start.
-#[tactic(auto, using(crate::proofs::BaseLists::task_times))]
-fn add_task(
-    list: &mut Vec<Diff>,
-    mode: &FlatMode,
-    firsts: &[bool],
-    rounds: u32,
-    task: u32,
-) -> Result<(), AllocError>
-    requires limits { IsLimited mode.now }
-    requires valid { IsValid mode.now }
-    requires firsts { firsts.now ≡ map (first mode.now) (below (length mode.now.tasks)) }
+fn add_task(list: &mut Vec<Diff>, frame: &Frame, rounds: u32, task: u32) -> Result<(), AllocError>
     requires rounds { rounds ≤ 256 }
-    requires task { task < length mode.now.tasks }
-    ensures { IfOk result (λ _. list.new.items ≡ list.old.items ++ of_task mode.now rounds task) }
+    requires task { task < length frame.now.tasks }
+    ensures { IfOk result (λ _. list.new.items ≡ list.old.items ++ of_task frame.now rounds task) }
 {
-    let start = at_most(0, rounds + task, 0);
-    if !firsts[task as usize] {
-        add_one(list, start)?;
+    let start = frame.task_var(rounds, task);
+    let after = at_most(0, start, 0);
+    if !frame.is_first(task) {
+        add_one(list, after)?;
         return Ok(());
     }
-    let within = at_most_less(rounds + task, 0, mode.task(task).period(), 1);
-    add_two(list, start, within)?;
+    let within = at_most_less(start, 0, frame.task(task).period(), 1);
+    add_two(list, after, within)?;
     Ok(())
 }
 
 /// Adds the constraints of the tasks' first starts.
-fn add_tasks(
-    list: &mut Vec<Diff>,
-    mode: &FlatMode,
-    firsts: &[bool],
-    rounds: u32,
-) -> Result<(), AllocError>
-    requires limits { IsLimited mode.now }
-    requires valid { IsValid mode.now }
-    requires firsts { firsts.now ≡ map (first mode.now) (below (length mode.now.tasks)) }
+fn add_tasks(list: &mut Vec<Diff>, frame: &Frame, rounds: u32) -> Result<(), AllocError>
     requires rounds { rounds ≤ 256 }
-    ensures { IfOk result (λ _. list.new.items ≡ list.old.items ++ flat_map (of_task mode.now rounds) (below (length mode.now.tasks))) }
+    ensures { IfOk result (λ _. list.new.items ≡ list.old.items ++ flat_map (of_task frame.now rounds) (below (length frame.now.tasks))) }
 {
-    for task in 0..mode.task_count() {
-        add_task(list, mode, firsts, rounds, task)?;
+    for task in 0..frame.task_count() {
+        add_task(list, frame, rounds, task)?;
     }
     Ok(())
 }
 
 /// Adds the constraints of a message and one of its producers.
-#[tactic(auto, using(crate::proofs::BaseLists::task_times, crate::proofs::BaseLists::message_times))]
 fn add_producer(
     list: &mut Vec<Diff>,
-    mode: &FlatMode,
+    frame: &Frame,
     rounds: u32,
     message: u32,
     producer: u32,
 ) -> Result<(), AllocError>
-    requires limits { IsLimited mode.now }
-    requires valid { IsValid mode.now }
     requires rounds { rounds ≤ 256 }
-    requires message { message < length mode.now.messages }
-    requires producer { producer < length mode.now.tasks }
-    ensures { IfOk result (λ _. list.new.items ≡ list.old.items ++ of_producer mode.now rounds message producer) }
+    requires message { message < length frame.now.messages }
+    requires producer { producer < length frame.now.tasks }
+    ensures { IfOk result (λ _. list.new.items ≡ list.old.items ++ of_producer frame.now rounds message producer) }
 {
-    let wcet = mode.task(producer).wcet();
-    let period = mode.message(message).period();
-    let after = at_least(rounds + producer, opens_var(mode, rounds, message), wcet);
-    let within = at_most(
-        closes_var(mode, rounds, message),
-        rounds + producer,
-        wcet + period,
-    );
+    let wcet = frame.task(producer).wcet();
+    let period = frame.message(message).period();
+    let start = frame.task_var(rounds, producer);
+    let after = at_least(start, frame.opens_var(rounds, message), wcet);
+    let within = at_most(frame.closes_var(rounds, message), start, wcet + period);
     add_two(list, after, within)?;
     Ok(())
 }
 
 /// Adds the constraints of a message and one of its consumers.
-#[tactic(auto, using(crate::proofs::BaseLists::message_times))]
 fn add_consumer(
     list: &mut Vec<Diff>,
-    mode: &FlatMode,
+    frame: &Frame,
     rounds: u32,
     message: u32,
     consumer: u32,
 ) -> Result<(), AllocError>
-    requires limits { IsLimited mode.now }
-    requires valid { IsValid mode.now }
     requires rounds { rounds ≤ 256 }
-    requires message { message < length mode.now.messages }
-    requires consumer { consumer < length mode.now.tasks }
-    ensures { IfOk result (λ _. list.new.items ≡ list.old.items ++ of_consumer mode.now rounds message consumer) }
+    requires message { message < length frame.now.messages }
+    requires consumer { consumer < length frame.now.tasks }
+    ensures { IfOk result (λ _. list.new.items ≡ list.old.items ++ of_consumer frame.now rounds message consumer) }
 {
-    let period = mode.message(message).period();
-    let after = at_most(closes_var(mode, rounds, message), rounds + consumer, 0);
-    let within = at_most_less(
-        rounds + consumer,
-        opens_var(mode, rounds, message),
-        period,
-        1,
-    );
+    let period = frame.message(message).period();
+    let start = frame.task_var(rounds, consumer);
+    let after = at_most(frame.closes_var(rounds, message), start, 0);
+    let within = at_most_less(start, frame.opens_var(rounds, message), period, 1);
     add_two(list, after, within)?;
     Ok(())
 }
@@ -199,20 +140,18 @@ fn add_consumer(
 /// Adds the constraints of a message and its producers.
 fn add_producers(
     list: &mut Vec<Diff>,
-    mode: &FlatMode,
+    frame: &Frame,
     rounds: u32,
     message: u32,
     producers: &[u32],
 ) -> Result<(), AllocError>
-    requires limits { IsLimited mode.now }
-    requires valid { IsValid mode.now }
     requires rounds { rounds ≤ 256 }
-    requires message { message < length mode.now.messages }
-    requires producers { All (λ a. a < length mode.now.tasks) producers.now }
-    ensures { IfOk result (λ _. list.new.items ≡ list.old.items ++ flat_map (of_producer mode.now rounds message) producers.now) }
+    requires message { message < length frame.now.messages }
+    requires producers { All (λ a. a < length frame.now.tasks) producers.now }
+    ensures { IfOk result (λ _. list.new.items ≡ list.old.items ++ flat_map (of_producer frame.now rounds message) producers.now) }
 {
     for producer in producers {
-        add_producer(list, mode, rounds, message, *producer)?;
+        add_producer(list, frame, rounds, message, *producer)?;
     }
     Ok(())
 }
@@ -220,20 +159,18 @@ fn add_producers(
 /// Adds the constraints of a message and its consumers.
 fn add_consumers(
     list: &mut Vec<Diff>,
-    mode: &FlatMode,
+    frame: &Frame,
     rounds: u32,
     message: u32,
     consumers: &[u32],
 ) -> Result<(), AllocError>
-    requires limits { IsLimited mode.now }
-    requires valid { IsValid mode.now }
     requires rounds { rounds ≤ 256 }
-    requires message { message < length mode.now.messages }
-    requires consumers { All (λ b. b < length mode.now.tasks) consumers.now }
-    ensures { IfOk result (λ _. list.new.items ≡ list.old.items ++ flat_map (of_consumer mode.now rounds message) consumers.now) }
+    requires message { message < length frame.now.messages }
+    requires consumers { All (λ b. b < length frame.now.tasks) consumers.now }
+    ensures { IfOk result (λ _. list.new.items ≡ list.old.items ++ flat_map (of_consumer frame.now rounds message) consumers.now) }
 {
     for consumer in consumers {
-        add_consumer(list, mode, rounds, message, *consumer)?;
+        add_consumer(list, frame, rounds, message, *consumer)?;
     }
     Ok(())
 }
@@ -241,37 +178,33 @@ fn add_consumers(
 /// Adds the constraints of a message.
 fn add_message(
     list: &mut Vec<Diff>,
-    mode: &FlatMode,
+    frame: &Frame,
     rounds: u32,
     message: u32,
 ) -> Result<(), AllocError>
-    requires limits { IsLimited mode.now }
-    requires valid { IsValid mode.now }
     requires rounds { rounds ≤ 256 }
-    requires message { message < length mode.now.messages }
-    ensures { IfOk result (λ _. list.new.items ≡ list.old.items ++ of_message mode.now rounds message) }
+    requires message { message < length frame.now.messages }
+    ensures { IfOk result (λ _. list.new.items ≡ list.old.items ++ of_message frame.now rounds message) }
 {
-    let ends = mode.message(message);
+    let ends = frame.message(message);
     let lasts = at_least(
-        opens_var(mode, rounds, message),
-        closes_var(mode, rounds, message),
+        frame.opens_var(rounds, message),
+        frame.closes_var(rounds, message),
         1,
     );
-    add_producers(list, mode, rounds, message, ends.from())?;
+    add_producers(list, frame, rounds, message, ends.from())?;
     add_one(list, lasts)?;
-    add_consumers(list, mode, rounds, message, ends.to())?;
+    add_consumers(list, frame, rounds, message, ends.to())?;
     Ok(())
 }
 
 /// Adds the constraints of the messages.
-fn add_messages(list: &mut Vec<Diff>, mode: &FlatMode, rounds: u32) -> Result<(), AllocError>
-    requires limits { IsLimited mode.now }
-    requires valid { IsValid mode.now }
+fn add_messages(list: &mut Vec<Diff>, frame: &Frame, rounds: u32) -> Result<(), AllocError>
     requires rounds { rounds ≤ 256 }
-    ensures { IfOk result (λ _. list.new.items ≡ list.old.items ++ flat_map (of_message mode.now rounds) (below (length mode.now.messages))) }
+    ensures { IfOk result (λ _. list.new.items ≡ list.old.items ++ flat_map (of_message frame.now rounds) (below (length frame.now.messages))) }
 {
-    for message in 0..mode.message_count() {
-        add_message(list, mode, rounds, message)?;
+    for message in 0..frame.message_count() {
+        add_message(list, frame, rounds, message)?;
     }
     Ok(())
 }
@@ -306,29 +239,23 @@ fn add_chains(list: &mut Vec<Diff>, rounds: u32, chains: &[Diff]) -> Result<(), 
     Ok(())
 }
 
-/// The constraints that always hold, for so many rounds in a hyperperiod of so many ticks. Of the mode's tasks `firsts`
-/// says which are first ones, and `chains` are the constraints of its chains.
+/// The constraints that always hold, for so many rounds. Those of the chains are given with tasks by their places.
 pub(crate) fn make_base(
     alloc: Global,
-    mode: &FlatMode,
-    firsts: &[bool],
+    frame: &Frame,
     chains: &[Diff],
     rounds: u32,
-    ticks: u64,
 ) -> Result<Vec<Diff>, AllocError>
-    requires limits { IsLimited mode.now }
-    requires valid { IsValid mode.now }
-    requires firsts { firsts.now ≡ map (first mode.now) (below (length mode.now.tasks)) }
-    requires chains { chains.now ≡ chains_of mode.now }
+    requires chains { chains.now ≡ chains_of frame.now }
     requires rounds { (1 ≤ rounds) × (rounds ≤ 256) }
-    requires ticks { ticks ≡ hyper mode.now }
-    ensures { IfOk result (λ v. v.items ≡ base mode.now rounds) }
+    ensures { IfOk result (λ v. v.items ≡ base frame.now rounds) }
 {
+    frame.kept();
     let mut list = Vec::new(alloc);
-    add_rounds(&mut list, mode, rounds)?;
-    add_turn(&mut list, mode, rounds, ticks)?;
-    add_tasks(&mut list, mode, firsts, rounds)?;
-    add_messages(&mut list, mode, rounds)?;
+    add_rounds(&mut list, frame, rounds)?;
+    add_turn(&mut list, frame, rounds)?;
+    add_tasks(&mut list, frame, rounds)?;
+    add_messages(&mut list, frame, rounds)?;
     add_chains(&mut list, rounds, chains)?;
     Ok(list)
 }

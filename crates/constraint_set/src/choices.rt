@@ -11,19 +11,18 @@ ghost use Rattle.round_service.specs.Serving.{most_choice};
 ghost use Rattle.constraint_set.specs.Numbers.{numbers_at, times_at};
 ghost use Rattle.constraint_set.specs.Decided.{MayChoose, decision_of};
 
-use crate::base::{closes_var, opens_var};
 use crate::decisions::Choice;
-use crate::flat::FlatMode;
+use crate::frame::Frame;
 use node_use::{TaskTimes, divisor_of, order_diffs, places_of};
 use round_service::{MessageTimes, first_choices, later_choices, serve_diffs};
 use tick_num::Diff;
 
 /// The numbers of the task at the place.
-fn times_of(mode: &FlatMode, place: u32) -> TaskTimes
-    requires { place < length mode.now.tasks }
-    ensures { result ≡ times_at mode.now place }
+fn times_of(frame: &Frame, place: u32) -> TaskTimes
+    requires { place < length frame.now.tasks }
+    ensures { result ≡ times_at frame.now place }
 {
-    let task = mode.task(place);
+    let task = frame.task(place);
     TaskTimes {
         period: task.period(),
         deadline: task.deadline(),
@@ -32,44 +31,40 @@ fn times_of(mode: &FlatMode, place: u32) -> TaskTimes
 }
 
 /// The numbers of the message at the place, for so many rounds in a hyperperiod of so many ticks.
-fn numbers_of(mode: &FlatMode, rounds: u32, ticks: u64, place: u32) -> MessageTimes
-    requires place { place < length mode.now.messages }
-    requires ticks { ticks ≡ hyper mode.now }
-    ensures { result ≡ numbers_at mode.now rounds place }
+fn numbers_of(frame: &Frame, rounds: u32, place: u32) -> MessageTimes
+    requires place { place < length frame.now.messages }
+    ensures { result ≡ numbers_at frame.now rounds place }
 {
-    let message = mode.message(place);
+    let message = frame.message(place);
     MessageTimes {
         rounds: rounds as u64,
-        round: mode.round(),
-        hyper: ticks,
+        round: frame.round(),
+        hyper: frame.ticks(),
         period: message.period(),
         deadline: message.deadline(),
     }
 }
 
 /// The alternatives of a pair of tasks.
-fn pair_alternatives(mode: &FlatMode, first: u32, second: u32) -> (i64, i64)
-    requires limits { IsLimited mode.now }
-    requires valid { IsValid mode.now }
-    requires first { first < length mode.now.tasks }
-    requires second { second < length mode.now.tasks }
-    ensures { span result.0 result.1 ≡ places (task_at mode.now first) (task_at mode.now second) }
+fn pair_alternatives(frame: &Frame, first: u32, second: u32) -> (i64, i64)
+    requires first { first < length frame.now.tasks }
+    requires second { second < length frame.now.tasks }
+    ensures { span result.0 result.1 ≡ places (task_at frame.now first) (task_at frame.now second) }
 {
-    let one = times_of(mode, first);
-    let two = times_of(mode, second);
+    frame.kept();
+    let one = times_of(frame, first);
+    let two = times_of(frame, second);
     places_of(one, two)
 }
 
 /// The alternatives of a message's first instance.
-fn first_alternatives(mode: &FlatMode, rounds: u32, ticks: u64, message: u32) -> (i64, i64)
-    requires limits { IsLimited mode.now }
-    requires valid { IsValid mode.now }
+fn first_alternatives(frame: &Frame, rounds: u32, message: u32) -> (i64, i64)
     requires rounds { (1 ≤ rounds) × (rounds ≤ 256) }
-    requires ticks { ticks ≡ hyper mode.now }
-    requires message { message < length mode.now.messages }
-    ensures { span result.0 result.1 ≡ alternatives_of mode.now rounds (serve message 0) [] }
+    requires message { message < length frame.now.messages }
+    ensures { span result.0 result.1 ≡ alternatives_of frame.now rounds (serve message 0) [] }
 {
-    let numbers = numbers_of(mode, rounds, ticks, message);
+    frame.kept();
+    let numbers = numbers_of(frame, rounds, message);
     first_choices(numbers)
 }
 
@@ -89,142 +84,113 @@ fn later_alternatives(rounds: u32, prefix: &[i64], instance: usize) -> (i64, i64
 
 /// The alternatives of an instance of a message, after the choices for the decisions before it.
 fn serve_alternatives(
-    mode: &FlatMode,
+    frame: &Frame,
     rounds: u32,
-    ticks: u64,
     message: u32,
     instance: u64,
     prefix: &[i64],
 ) -> (i64, i64)
-    requires limits { IsLimited mode.now }
-    requires valid { IsValid mode.now }
     requires rounds { (1 ≤ rounds) × (rounds ≤ 256) }
-    requires ticks { ticks ≡ hyper mode.now }
-    requires more { length prefix.now < length (decisions mode.now) }
-    requires chosen { Chosen mode.now rounds prefix.now }
-    requires decision { serve message instance ≡ slice_index_or (decisions mode.now) (length prefix.now) (order 0 0) }
-    ensures { span result.0 result.1 ≡ alternatives_of mode.now rounds (serve message instance) prefix.now }
+    requires more { length prefix.now < length (decisions frame.now) }
+    requires chosen { Chosen frame.now rounds prefix.now }
+    requires decision { serve message instance ≡ slice_index_or (decisions frame.now) (length prefix.now) (order 0 0) }
+    ensures { span result.0 result.1 ≡ alternatives_of frame.now rounds (serve message instance) prefix.now }
 {
     if instance == 0 {
-        return first_alternatives(mode, rounds, ticks, message);
+        return first_alternatives(frame, rounds, message);
     }
+    frame.kept();
     later_alternatives(rounds, prefix, instance as usize)
 }
 
 /// The alternatives of a decision, after the choices for the decisions before it.
 pub(crate) fn alternatives_at(
-    mode: &FlatMode,
+    frame: &Frame,
     rounds: u32,
-    ticks: u64,
     choice: Choice,
     prefix: &[i64],
 ) -> (i64, i64)
-    requires limits { IsLimited mode.now }
-    requires valid { IsValid mode.now }
     requires rounds { (1 ≤ rounds) × (rounds ≤ 256) }
-    requires ticks { ticks ≡ hyper mode.now }
-    requires more { length prefix.now < length (decisions mode.now) }
-    requires chosen { Chosen mode.now rounds prefix.now }
-    requires decision { decision_of choice ≡ slice_index_or (decisions mode.now) (length prefix.now) (order 0 0) }
-    ensures { span result.0 result.1 ≡ alternatives_of mode.now rounds (decision_of choice) prefix.now }
+    requires more { length prefix.now < length (decisions frame.now) }
+    requires chosen { Chosen frame.now rounds prefix.now }
+    requires decision { decision_of choice ≡ slice_index_or (decisions frame.now) (length prefix.now) (order 0 0) }
+    ensures { span result.0 result.1 ≡ alternatives_of frame.now rounds (decision_of choice) prefix.now }
 {
     match choice {
         Choice::Serve(message, instance) => serve_alternatives(
-            mode, rounds, ticks, message, instance, prefix,
+            frame, rounds, message, instance, prefix,
         ),
-        Choice::Order(first, second) => pair_alternatives(mode, first, second),
+        Choice::Order(first, second) => pair_alternatives(frame, first, second),
     }
 }
 
 /// The two constraints of the choice `z` for a pair of tasks.
-fn pair_diffs(mode: &FlatMode, rounds: u32, first: u32, second: u32, z: i64) -> [Diff; 2]
-    requires limits { IsLimited mode.now }
-    requires valid { IsValid mode.now }
+fn pair_diffs(frame: &Frame, rounds: u32, first: u32, second: u32, z: i64) -> [Diff; 2]
     requires rounds { rounds ≤ 256 }
-    requires first { first < length mode.now.tasks }
-    requires second { second < length mode.now.tasks }
-    requires place { Contains (places (task_at mode.now first) (task_at mode.now second)) z }
-    ensures { result ≡ chosen mode.now rounds (order first second) z }
+    requires first { first < length frame.now.tasks }
+    requires second { second < length frame.now.tasks }
+    requires place { Contains (places (task_at frame.now first) (task_at frame.now second)) z }
+    ensures { result ≡ chosen frame.now rounds (order first second) z }
 {
-    let one = times_of(mode, first);
-    let two = times_of(mode, second);
+    frame.kept();
+    let one = times_of(frame, first);
+    let two = times_of(frame, second);
     let divisor = divisor_of(one, two);
-    order_diffs(rounds + first, rounds + second, one, two, divisor, z)
+    let (earlier, later) = (
+        frame.task_var(rounds, first),
+        frame.task_var(rounds, second),
+    );
+    order_diffs(earlier, later, one, two, divisor, z)
 }
 
 /// The two constraints of the choice `g` for an instance of a message.
-fn instance_diffs(
-    mode: &FlatMode,
-    rounds: u32,
-    ticks: u64,
-    message: u32,
-    instance: u64,
-    g: i64,
-) -> [Diff; 2]
-    requires limits { IsLimited mode.now }
-    requires valid { IsValid mode.now }
+fn instance_diffs(frame: &Frame, rounds: u32, message: u32, instance: u64, g: i64) -> [Diff; 2]
     requires rounds { (1 ≤ rounds) × (rounds ≤ 256) }
-    requires ticks { ticks ≡ hyper mode.now }
-    requires message { message < length mode.now.messages }
-    requires instance { instance < instance_count mode.now (message_at mode.now message) }
+    requires message { message < length frame.now.messages }
+    requires instance { instance < instance_count frame.now (message_at frame.now message) }
     requires least { pos 1 ≤ℤ g }
-    requires most { g ≤ℤ pos (most_choice (numbers_at mode.now rounds message)) }
-    ensures { result ≡ chosen mode.now rounds (serve message instance) g }
+    requires most { g ≤ℤ pos (most_choice (numbers_at frame.now rounds message)) }
+    ensures { result ≡ chosen frame.now rounds (serve message instance) g }
 {
-    let opens = opens_var(mode, rounds, message);
-    let closes = closes_var(mode, rounds, message);
-    let numbers = numbers_of(mode, rounds, ticks, message);
+    let opens = frame.opens_var(rounds, message);
+    let closes = frame.closes_var(rounds, message);
+    frame.kept();
+    let numbers = numbers_of(frame, rounds, message);
     serve_diffs(opens, closes, numbers, instance, g)
 }
 
 /// The two constraints of a choice for the decision that stands at the place `at`, after the choices for those before it.
 pub(crate) fn diffs_at(
-    mode: &FlatMode,
+    frame: &Frame,
     rounds: u32,
-    ticks: u64,
     choice: Choice,
     prefix: &[i64],
     at: usize,
 ) -> [Diff; 2]
-    requires limits { IsLimited mode.now }
-    requires valid { IsValid mode.now }
     requires rounds { (1 ≤ rounds) × (rounds ≤ 256) }
-    requires ticks { ticks ≡ hyper mode.now }
-    requires few { length prefix.now ≤ length (decisions mode.now) }
-    requires chosen { Chosen mode.now rounds prefix.now }
+    requires few { length prefix.now ≤ length (decisions frame.now) }
+    requires chosen { Chosen frame.now rounds prefix.now }
     requires at { at < length prefix.now }
-    requires decision { decision_of choice ≡ slice_index_or (decisions mode.now) at (order 0 0) }
-    ensures { result ≡ chosen mode.now rounds (decision_of choice) (slice_index_or prefix.now at (pos 0)) }
+    requires decision { decision_of choice ≡ slice_index_or (decisions frame.now) at (order 0 0) }
+    ensures { result ≡ chosen frame.now rounds (decision_of choice) (slice_index_or prefix.now at (pos 0)) }
 {
+    frame.kept();
     let value = prefix[at];
     match choice {
-        Choice::Serve(message, instance) => instance_diffs(
-            mode, rounds, ticks, message, instance, value,
-        ),
-        Choice::Order(first, second) => pair_diffs(mode, rounds, first, second, value),
+        Choice::Serve(message, instance) => instance_diffs(frame, rounds, message, instance, value),
+        Choice::Order(first, second) => pair_diffs(frame, rounds, first, second, value),
     }
 }
 
 /// The two constraints of a choice for a decision.
-pub(crate) fn diffs_of(
-    mode: &FlatMode,
-    rounds: u32,
-    ticks: u64,
-    choice: Choice,
-    value: i64,
-) -> [Diff; 2]
-    requires limits { IsLimited mode.now }
-    requires valid { IsValid mode.now }
+pub(crate) fn diffs_of(frame: &Frame, rounds: u32, choice: Choice, value: i64) -> [Diff; 2]
     requires rounds { (1 ≤ rounds) × (rounds ≤ 256) }
-    requires ticks { ticks ≡ hyper mode.now }
-    requires decision { (at : ℕ) × (at < length (decisions mode.now)) × (decision_of choice ≡ slice_index_or (decisions mode.now) at (order 0 0)) }
-    requires value { MayChoose mode.now rounds (decision_of choice) value }
-    ensures { result ≡ chosen mode.now rounds (decision_of choice) value }
+    requires decision { (at : ℕ) × (at < length (decisions frame.now)) × (decision_of choice ≡ slice_index_or (decisions frame.now) at (order 0 0)) }
+    requires value { MayChoose frame.now rounds (decision_of choice) value }
+    ensures { result ≡ chosen frame.now rounds (decision_of choice) value }
 {
     match choice {
-        Choice::Serve(message, instance) => instance_diffs(
-            mode, rounds, ticks, message, instance, value,
-        ),
-        Choice::Order(first, second) => pair_diffs(mode, rounds, first, second, value),
+        Choice::Serve(message, instance) => instance_diffs(frame, rounds, message, instance, value),
+        Choice::Order(first, second) => pair_diffs(frame, rounds, first, second, value),
     }
 }

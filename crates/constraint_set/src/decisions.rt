@@ -9,7 +9,7 @@ ghost use Rattle.sched_model.specs.ModeLimits.{IsLimited};
 ghost use Rattle.sched_model.specs.ValidMode.{IsValid};
 ghost use Rattle.constraint_set.specs.Decided.{decision_of};
 
-use crate::flat::FlatMode;
+use crate::frame::Frame;
 use std::alloc::{AllocError, Global};
 use std::marker::Model;
 
@@ -83,52 +83,35 @@ fn add_serves(list: &mut Decisions, message: u32, instances: u64) -> Result<(), 
 }
 
 /// Adds the instances of the message at the place, in a hyperperiod of so many ticks.
-#[tactic(auto, using(crate::proofs::BaseLists::message_some))]
-fn add_message(
-    list: &mut Decisions,
-    mode: &FlatMode,
-    ticks: u64,
-    message: u32,
-) -> Result<(), AllocError>
-    requires limits { IsLimited mode.now }
-    requires valid { IsValid mode.now }
-    requires message { message < length mode.now.messages }
-    requires ticks { ticks ≡ hyper mode.now }
-    ensures { IfOk result (λ _. list.new ≡ list.old ++ serves mode.now message) }
+fn add_message(list: &mut Decisions, frame: &Frame, message: u32) -> Result<(), AllocError>
+    requires message { message < length frame.now.messages }
+    ensures { IfOk result (λ _. list.new ≡ list.old ++ serves frame.now message) }
 {
-    let period = mode.message(message).period();
-    add_serves(list, message, ticks / period)?;
+    let period = frame.message(message).period();
+    add_serves(list, message, frame.ticks() / period)?;
     Ok(())
 }
 
 /// Adds the instances of the messages.
-fn add_messages(list: &mut Decisions, mode: &FlatMode, ticks: u64) -> Result<(), AllocError>
-    requires limits { IsLimited mode.now }
-    requires valid { IsValid mode.now }
-    requires ticks { ticks ≡ hyper mode.now }
-    ensures { IfOk result (λ _. list.new ≡ list.old ++ flat_map (serves mode.now) (below (length mode.now.messages))) }
+fn add_messages(list: &mut Decisions, frame: &Frame) -> Result<(), AllocError>
+    ensures { IfOk result (λ _. list.new ≡ list.old ++ flat_map (serves frame.now) (below (length frame.now.messages))) }
 {
-    for message in 0..mode.message_count() {
-        add_message(list, mode, ticks, message)?;
+    for message in 0..frame.message_count() {
+        add_message(list, frame, message)?;
     }
     Ok(())
 }
 
 /// Adds the pair of the tasks, where the first stands before the second on one node.
-fn add_pair(
-    list: &mut Decisions,
-    mode: &FlatMode,
-    first: u32,
-    second: u32,
-) -> Result<(), AllocError>
-    requires first { first < length mode.now.tasks }
-    requires second { second < length mode.now.tasks }
-    ensures { IfOk result (λ _. list.new ≡ list.old ++ ordered mode.now first second) }
+fn add_pair(list: &mut Decisions, frame: &Frame, first: u32, second: u32) -> Result<(), AllocError>
+    requires first { first < length frame.now.tasks }
+    requires second { second < length frame.now.tasks }
+    ensures { IfOk result (λ _. list.new ≡ list.old ++ ordered frame.now first second) }
 {
     if first >= second {
         return Ok(());
     }
-    if mode.task(first).node() != mode.task(second).node() {
+    if frame.task(first).node() != frame.task(second).node() {
         return Ok(());
     }
     list.push(Choice::Order(first, second))?;
@@ -136,41 +119,32 @@ fn add_pair(
 }
 
 /// Adds the pairs of a task with the later ones on its node.
-fn add_pairs_of(list: &mut Decisions, mode: &FlatMode, first: u32) -> Result<(), AllocError>
-    requires limits { IsLimited mode.now }
-    requires first { first < length mode.now.tasks }
-    ensures { IfOk result (λ _. list.new ≡ list.old ++ orders mode.now first) }
+fn add_pairs_of(list: &mut Decisions, frame: &Frame, first: u32) -> Result<(), AllocError>
+    requires first { first < length frame.now.tasks }
+    ensures { IfOk result (λ _. list.new ≡ list.old ++ orders frame.now first) }
 {
-    for second in 0..mode.task_count() {
-        add_pair(list, mode, first, second)?;
+    for second in 0..frame.task_count() {
+        add_pair(list, frame, first, second)?;
     }
     Ok(())
 }
 
 /// Adds the pairs of tasks.
-fn add_pairs(list: &mut Decisions, mode: &FlatMode) -> Result<(), AllocError>
-    requires limits { IsLimited mode.now }
-    ensures { IfOk result (λ _. list.new ≡ list.old ++ flat_map (orders mode.now) (below (length mode.now.tasks))) }
+fn add_pairs(list: &mut Decisions, frame: &Frame) -> Result<(), AllocError>
+    ensures { IfOk result (λ _. list.new ≡ list.old ++ flat_map (orders frame.now) (below (length frame.now.tasks))) }
 {
-    for first in 0..mode.task_count() {
-        add_pairs_of(list, mode, first)?;
+    for first in 0..frame.task_count() {
+        add_pairs_of(list, frame, first)?;
     }
     Ok(())
 }
 
 /// The decisions of the mode, whose hyperperiod has so many ticks.
-pub(crate) fn make_decisions(
-    alloc: Global,
-    mode: &FlatMode,
-    ticks: u64,
-) -> Result<Decisions, AllocError>
-    requires limits { IsLimited mode.now }
-    requires valid { IsValid mode.now }
-    requires ticks { ticks ≡ hyper mode.now }
-    ensures { IfOk result (λ d. d ≡ decisions mode.now) }
+pub(crate) fn make_decisions(alloc: Global, frame: &Frame) -> Result<Decisions, AllocError>
+    ensures { IfOk result (λ d. d ≡ decisions frame.now) }
 {
     let mut list = Decisions::new(alloc);
-    add_messages(&mut list, mode, ticks)?;
-    add_pairs(&mut list, mode)?;
+    add_messages(&mut list, frame)?;
+    add_pairs(&mut list, frame)?;
     Ok(list)
 }

@@ -7,6 +7,7 @@ mod chains;
 mod choices;
 mod decisions;
 mod flat;
+mod frame;
 pub mod laws;
 mod loads;
 mod problem;

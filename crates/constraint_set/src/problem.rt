@@ -2,7 +2,7 @@
 
 ghost use Rattle.std.specs.Prelude.{◌≡◌, ◌-◌, ◌*◌, ◌<◌, ◌≤◌, ◌↔◌, IfNone, IfOk, IfSome, IsTrue, OnErr, OnOk, length, pos, slice_index_or};
 ghost use Rattle.app_graph.specs.Validation.{KeepsRules};
-ghost use Rattle.sched_model.specs.PlainMode.{hyper, instances, most_rounds, plain_at};
+ghost use Rattle.sched_model.specs.PlainMode.{instances, most_rounds, plain_at};
 ghost use Rattle.sched_model.specs.ConstraintProblem.{alternatives, base, chosen, decisions, order, vars};
 ghost use Rattle.sched_model.specs.Numbers.{span};
 ghost use Rattle.sched_model.specs.OpenPrefix.{Chosen};
@@ -14,14 +14,14 @@ ghost use Rattle.constraint_set.specs.Decided.{AllRoom, FirstOver, MayChoose};
 ghost use Rattle.constraint_set.specs.Loads.{Within, round_of};
 
 use crate::base::make_base;
-use crate::chains::{find_chains, find_firsts};
+use crate::chains::find_chains;
 use crate::choices::{alternatives_at, diffs_at, diffs_of};
 use crate::decisions::{Decisions, make_decisions};
-use crate::flat::{FlatMode, flatten};
+use crate::frame::Frame;
 use crate::loads::{first_overfull, round_named};
 use crate::schedule::make_schedule;
 use app_graph::ModeSet;
-use sched_model::{Schedule, TaskGraph, hyper, instances};
+use sched_model::{Schedule, TaskGraph};
 use std::alloc::{AllocError, Global};
 use std::marker::Model;
 use tick_num::{Diff, Time};
@@ -29,14 +29,11 @@ use tick_num::{Diff, Time};
 /// The constraint problem of a mode, for a number of rounds in a hyperperiod.
 #[derive(Drop)]
 pub struct Problem {
-    mode: FlatMode,
-    rounds: u32,
-    ticks: u64,
-    instances: u64,
-    firsts: Vec<bool>,
+    frame: Frame,
     chains: Vec<Diff>,
-    base: Vec<Diff>,
     decisions: Decisions,
+    rounds: u32,
+    base: Vec<Diff>,
 }
 
 impl Model for Problem {
@@ -44,18 +41,9 @@ impl Model for Problem {
 
     ghost Value = { Posed };
 
-    ghost view = { λ p. record { mode = p.mode; rounds = p.rounds } };
+    ghost view = { λ p. record { mode = p.frame; rounds = p.rounds } };
 
-    ghost invariant = { λ p. Ready (record { mode = p.mode; rounds = p.rounds }) p.ticks p.instances p.firsts.items p.chains.items p.base.items p.decisions };
-}
-
-/// The hyperperiod of the mode, in ticks.
-fn ticks_of(set: &ModeSet, mode: u32) -> u64
-    requires rules { KeepsRules set.now }
-    requires mode { mode < length set.now.modes }
-    ensures { result ≡ hyper (plain_at set.now mode) }
-{
-    hyper(set, mode).unsigned_abs()
+    ghost invariant = { λ p. Ready (record { mode = p.frame; rounds = p.rounds }) p.chains.items p.base.items p.decisions };
 }
 
 impl Problem {
@@ -67,31 +55,19 @@ impl Problem {
         requires most { rounds ≤ most_rounds (plain_at set.now mode) }
         ensures { IfOk result (λ p. p ≡ record { mode = plain_at set.now mode; rounds = rounds }) }
     {
-        let flat = flatten(alloc, set, mode)?;
-        let ticks = ticks_of(set, mode);
-        let count = instances(set, mode);
-        let rounds = rounds as u32;
         let graph = TaskGraph::of(set, mode);
-        let firsts = find_firsts(alloc, &flat, &graph)?;
-        let chains = find_chains(alloc, &flat, &graph)?;
-        let base = make_base(
-            alloc,
-            &flat,
-            firsts.as_slice(),
-            chains.as_slice(),
-            rounds,
-            ticks,
-        )?;
-        let decisions = make_decisions(alloc, &flat, ticks)?;
+        let frame = Frame::make(alloc, set, mode, &graph)?;
+        let chains = find_chains(alloc, &frame, &graph)?;
+        let decisions = make_decisions(alloc, &frame)?;
+        frame.kept();
+        let rounds = rounds as u32;
+        let base = make_base(alloc, &frame, chains.as_slice(), rounds)?;
         Ok(Problem {
-            mode: flat,
-            rounds,
-            ticks,
-            instances: count,
-            firsts,
+            frame,
             chains,
-            base,
             decisions,
+            rounds,
+            base,
         })
     }
 
@@ -106,15 +82,9 @@ impl Problem {
         ensures kept { OnErr result (self.new ≡ self.old) }
     {
         let alloc = *self.base.allocator();
+        self.frame.kept();
         let next = rounds as u32;
-        let base = make_base(
-            alloc,
-            &self.mode,
-            self.firsts.as_slice(),
-            self.chains.as_slice(),
-            next,
-            self.ticks,
-        )?;
+        let base = make_base(alloc, &self.frame, self.chains.as_slice(), next)?;
         self.rounds = next;
         self.base = base;
         Ok(())
@@ -127,7 +97,8 @@ impl Problem {
         ensures fits { ProblemFits self.now.mode self.now.rounds }
         ensures valid { IsValid self.now.mode }
     {
-        self.rounds + self.mode.task_count() + 2 * self.mode.message_count()
+        self.frame.kept();
+        self.rounds + self.frame.task_count() + 2 * self.frame.message_count()
     }
 
     /// The number of rounds in a hyperperiod.
@@ -157,14 +128,14 @@ impl Problem {
     pub fn slots(&self) -> u32
         ensures { result ≡ self.now.mode.slots }
     {
-        self.mode.slots()
+        self.frame.slots()
     }
 
     /// Whether the rounds have too few slots for the instances of all messages.
     pub fn short_of_slots(&self) -> bool
         ensures { IsTrue result ↔ (self.now.rounds * self.now.mode.slots < instances self.now.mode) }
     {
-        (self.rounds as u64 * self.mode.slots() as u64) < self.instances
+        (self.rounds as u64 * self.frame.slots() as u64) < self.frame.instances()
     }
 
     /// The least and the greatest alternative of the next decision after these choices;
@@ -175,7 +146,7 @@ impl Problem {
         ensures { span result.0 result.1 ≡ alternatives self.now.mode self.now.rounds prefix.now }
     {
         let choice = self.decisions.at(prefix.len());
-        alternatives_at(&self.mode, self.rounds, self.ticks, choice, prefix)
+        alternatives_at(&self.frame, self.rounds, choice, prefix)
     }
 
     /// The two constraints that the last of these choices adds.
@@ -187,7 +158,7 @@ impl Problem {
     {
         let last = prefix.len() - 1;
         let choice = self.decisions.at(last);
-        diffs_at(&self.mode, self.rounds, self.ticks, choice, prefix, last)
+        diffs_at(&self.frame, self.rounds, choice, prefix, last)
     }
 
     /// The two constraints that the choice `value` adds for the decision at the place `at`, whichever the others are.
@@ -197,7 +168,7 @@ impl Problem {
         ensures { result ≡ chosen self.now.mode self.now.rounds (slice_index_or (decisions self.now.mode) at (order 0 0)) value }
     {
         let choice = self.decisions.at(at);
-        diffs_of(&self.mode, self.rounds, self.ticks, choice, value)
+        diffs_of(&self.frame, self.rounds, choice, value)
     }
 
     /// The first round, from 1, that these choices name more often than it has slots; None exactly where there is none.
@@ -206,7 +177,7 @@ impl Problem {
         ensures none { IfNone result (AllRoom self.now.mode.slots self.now.rounds self.now.rounds (decisions self.now.mode) prefix.now) }
         ensures some { IfSome result (FirstOver self.now.mode.slots self.now.rounds (decisions self.now.mode) prefix.now) }
     {
-        first_overfull(&self.decisions, prefix, self.rounds, self.mode.slots())
+        first_overfull(&self.decisions, prefix, self.rounds, self.frame.slots())
     }
 
     /// The schedule of a full list of choices and a value for each variable, in ticks: its tables have the messages
@@ -217,7 +188,7 @@ impl Problem {
         ensures { IfOk result (λ s. s ≡ schedule_of self.now.mode self.now.rounds choices.now (listed values.now)) }
     {
         let alloc = *self.base.allocator();
-        make_schedule(alloc, &self.mode, self.rounds, self.ticks, choices, values)
+        make_schedule(alloc, &self.frame, self.rounds, choices, values)
     }
 
     /// The round, from 1, that this choice for the decision at the place `at` names; none for a pair of tasks.

@@ -10,7 +10,7 @@ ghost use Rattle.sched_model.specs.PrintedSchedule.{names, schedule_of, table_of
 ghost use Rattle.sched_model.specs.ModeLimits.{IsLimited};
 ghost use Rattle.sched_model.specs.ValidMode.{IsValid};
 
-use crate::flat::FlatMode;
+use crate::frame::Frame;
 use crate::loads::place_of_round;
 use app_graph::ListOf;
 use sched_model::Schedule;
@@ -70,25 +70,22 @@ fn is_named(choices: &[i64], first: usize, count: u64, rounds: u32, round: u32) 
 #[tactic(auto, using(crate::proofs::BaseLists::message_some, crate::proofs::TableLemmas::serves_fit))]
 fn add_named(
     numbers: &mut Vec<u32>,
-    mode: &FlatMode,
+    frame: &Frame,
     rounds: u32,
-    ticks: u64,
     choices: &[i64],
     message: u32,
     first: usize,
     round: u32,
 ) -> Result<usize, AllocError>
-    requires valid { IsValid mode.now }
     requires some { 1 ≤ rounds }
-    requires ticks { ticks ≡ hyper mode.now }
-    requires message { message < length mode.now.messages }
-    requires first { first ≡ place mode.now message 0 }
-    requires full { length choices.now ≡ length (decisions mode.now) }
-    ensures { IfOk result (λ next. (next ≡ first + instance_count mode.now (message_at mode.now message))
-        × (numbers.new.items ≡ numbers.old.items ++ cond (names mode.now rounds choices.now round message) ((message_at mode.now message).number ∷ []) [])) }
+    requires message { message < length frame.now.messages }
+    requires first { first ≡ place frame.now message 0 }
+    requires full { length choices.now ≡ length (decisions frame.now) }
+    ensures { IfOk result (λ next. (next ≡ first + instance_count frame.now (message_at frame.now message))
+        × (numbers.new.items ≡ numbers.old.items ++ cond (names frame.now rounds choices.now round message) ((message_at frame.now message).number ∷ []) [])) }
 {
-    let message = mode.message(message);
-    let count = ticks / message.period();
+    let message = frame.message(message);
+    let count = frame.ticks() / message.period();
     if is_named(choices, first, count, rounds, round) {
         numbers.push(message.number())?;
     }
@@ -98,32 +95,19 @@ fn add_named(
 /// The numbers of the messages with a choice that names the round at its place, in file order.
 fn make_table(
     alloc: Global,
-    mode: &FlatMode,
+    frame: &Frame,
     rounds: u32,
-    ticks: u64,
     choices: &[i64],
     round: u32,
 ) -> Result<ListOf<u32>, AllocError>
-    requires valid { IsValid mode.now }
-    requires limits { IsLimited mode.now }
     requires some { 1 ≤ rounds }
-    requires ticks { ticks ≡ hyper mode.now }
-    requires full { length choices.now ≡ length (decisions mode.now) }
-    ensures { IfOk result (λ table. table ≡ table_of mode.now rounds choices.now round) }
+    requires full { length choices.now ≡ length (decisions frame.now) }
+    ensures { IfOk result (λ table. table ≡ table_of frame.now rounds choices.now round) }
 {
     let mut numbers = Vec::new(alloc);
     let mut first = 0;
-    for message in 0..mode.message_count() {
-        first = add_named(
-            &mut numbers,
-            mode,
-            rounds,
-            ticks,
-            choices,
-            message,
-            first,
-            round,
-        )?;
+    for message in 0..frame.message_count() {
+        first = add_named(&mut numbers, frame, rounds, choices, message, first, round)?;
     }
     Ok(ListOf::from_vec(numbers))
 }
@@ -131,21 +115,17 @@ fn make_table(
 /// The tables of the rounds.
 fn make_tables(
     alloc: Global,
-    mode: &FlatMode,
+    frame: &Frame,
     rounds: u32,
-    ticks: u64,
     choices: &[i64],
 ) -> Result<Vec<ListOf<u32>>, AllocError>
-    requires valid { IsValid mode.now }
-    requires limits { IsLimited mode.now }
     requires some { 1 ≤ rounds }
-    requires ticks { ticks ≡ hyper mode.now }
-    requires full { length choices.now ≡ length (decisions mode.now) }
-    ensures { IfOk result (λ v. v.items ≡ map (table_of mode.now rounds choices.now) (below rounds)) }
+    requires full { length choices.now ≡ length (decisions frame.now) }
+    ensures { IfOk result (λ v. v.items ≡ map (table_of frame.now rounds choices.now) (below rounds)) }
 {
     let mut tables = Vec::new(alloc);
     for round in 0..rounds {
-        tables.push(make_table(alloc, mode, rounds, ticks, choices, round)?)?;
+        tables.push(make_table(alloc, frame, rounds, choices, round)?)?;
     }
     Ok(tables)
 }
@@ -153,26 +133,22 @@ fn make_tables(
 /// The schedule of the mode, whose hyperperiod has so many ticks.
 pub(crate) fn make_schedule(
     alloc: Global,
-    mode: &FlatMode,
+    frame: &Frame,
     rounds: u32,
-    ticks: u64,
     choices: &[i64],
     values: &[Time],
 ) -> Result<Schedule, AllocError>
-    requires valid { IsValid mode.now }
-    requires limits { IsLimited mode.now }
     requires some { 1 ≤ rounds }
-    requires ticks { ticks ≡ hyper mode.now }
-    requires full { length choices.now ≡ length (decisions mode.now) }
-    requires values { length values.now ≡ vars mode.now rounds }
-    ensures { IfOk result (λ s. s ≡ schedule_of mode.now rounds choices.now (listed values.now)) }
+    requires full { length choices.now ≡ length (decisions frame.now) }
+    requires values { length values.now ≡ vars frame.now rounds }
+    ensures { IfOk result (λ s. s ≡ schedule_of frame.now rounds choices.now (listed values.now)) }
 {
     let tasks = rounds as usize;
-    let messages = tasks + mode.task_count() as usize;
+    let messages = tasks + frame.task_count() as usize;
     let starts = values_from(alloc, values, 0, rounds)?;
-    let offsets = values_from(alloc, values, tasks, mode.task_count())?;
-    let windows = windows_from(alloc, values, messages, mode.message_count())?;
-    let tables = make_tables(alloc, mode, rounds, ticks, choices)?;
+    let offsets = values_from(alloc, values, tasks, frame.task_count())?;
+    let windows = windows_from(alloc, values, messages, frame.message_count())?;
+    let tables = make_tables(alloc, frame, rounds, choices)?;
     Ok(Schedule {
         starts: ListOf::from_vec(starts),
         tasks: ListOf::from_vec(offsets),

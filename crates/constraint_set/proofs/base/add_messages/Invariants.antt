@@ -5,4 +5,4 @@ use Rattle.sched_model.specs.ConstraintProblem.{of_message}
 use Rattle.constraint_set.proofs.base.add_messages.Given as goal
 
 abbrev pub invariant-loop-message : goal.invariant-loop-message
-invariant-loop-message l = l.list.items ≡ l.initial.list.items ++ flat_map (of_message l.mode l.rounds) (below l.message)
+invariant-loop-message l = l.list.items ≡ l.initial.list.items ++ flat_map (of_message l.frame l.rounds) (below l.message)

@@ -5,4 +5,4 @@ use Rattle.sched_model.specs.ConstraintProblem.{next_round}
 use Rattle.constraint_set.proofs.base.add_rounds.Given as goal
 
 abbrev pub invariant-loop-j : goal.invariant-loop-j
-invariant-loop-j l = l.list.items ≡ l.initial.list.items ++ flat_map (next_round l.mode) (below l.j)
+invariant-loop-j l = l.list.items ≡ l.initial.list.items ++ flat_map (next_round l.frame) (below l.j)

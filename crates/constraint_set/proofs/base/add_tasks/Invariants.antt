@@ -5,4 +5,4 @@ use Rattle.sched_model.specs.ConstraintProblem.{of_task}
 use Rattle.constraint_set.proofs.base.add_tasks.Given as goal
 
 abbrev pub invariant-loop-task : goal.invariant-loop-task
-invariant-loop-task l = l.list.items ≡ l.initial.list.items ++ flat_map (of_task l.mode l.rounds) (below l.task)
+invariant-loop-task l = l.list.items ≡ l.initial.list.items ++ flat_map (of_task l.frame l.rounds) (below l.task)

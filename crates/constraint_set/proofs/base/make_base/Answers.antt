@@ -5,11 +5,11 @@ use Rattle.constraint_set.proofs.ChainsBehind.{chains_behind, chains_within}
 use Rattle.constraint_set.proofs.base.make_base.Goals as goal
 
 pub add_chains-requires-clause-tasks : goal.add_chains-requires-clause-tasks
-add_chains-requires-clause-tasks c = chains_within c.args.mode.now c.args.chains.now c.requires.limits.tasks c.requires.chains
+add_chains-requires-clause-tasks c = chains_within c.args.frame.now c.args.chains.now c.kept.ensures.limits.tasks c.requires.chains
 
 pub returns : goal.returns
 returns c =
-    five_parts c.args.mode.now c.args.rounds c.new-list.result.items c.add_rounds.new.list.items c.add_turn.new.list.items c.add_tasks.new.list.items
+    five_parts c.args.frame.now c.args.rounds c.new-list.result.items c.add_rounds.new.list.items c.add_turn.new.list.items c.add_tasks.new.list.items
     c.add_messages.new.list.items c.add_chains.new.list.items c.new-list.ensures.items c.in_ok-add_rounds.ensures c.in_ok-add_turn.ensures c.in_ok-add_tasks.ensures
     c.in_ok-add_messages.ensures
-    (c.in_ok-add_chains.ensures ∙ ap (λ (l : List Diff). c.add_messages.new.list.items ++ l) (chains_behind c.args.mode.now c.args.rounds c.args.chains.now c.requires.chains))
+    (c.in_ok-add_chains.ensures ∙ ap (λ (l : List Diff). c.add_messages.new.list.items ++ l) (chains_behind c.args.frame.now c.args.rounds c.args.chains.now c.requires.chains))

@@ -5,4 +5,4 @@ use Rattle.sched_model.specs.ConstraintProblem.{of_chain}
 use Rattle.constraint_set.proofs.chains.add_chains_of.Given as goal
 
 abbrev pub invariant-loop-end : goal.invariant-loop-end
-invariant-loop-end l = l.chains.items ≡ l.initial.chains.items ++ flat_map (of_chain l.mode 0 l.start) (below l.end)
+invariant-loop-end l = l.chains.items ≡ l.initial.chains.items ++ flat_map (of_chain l.frame 0 l.start) (below l.end)

@@ -5,4 +5,4 @@ use Rattle.sched_model.specs.ConstraintProblem.{of_first}
 use Rattle.constraint_set.proofs.chains.find_chains.Given as goal
 
 abbrev pub invariant-loop-start : goal.invariant-loop-start
-invariant-loop-start l = l.chains.items ≡ flat_map (of_first l.mode 0) (below l.start)
+invariant-loop-start l = l.chains.items ≡ flat_map (of_first l.frame 0) (below l.start)

@@ -10,31 +10,31 @@ use Rattle.constraint_set.proofs.choices.diffs_of.Goals as goal
 
 pub instance_diffs-requires-clause-message : goal.instance_diffs-requires-clause-message
 instance_diffs-requires-clause-message c =
-    (at_serve c.args.mode.now c.requires.decision.0 c.in-Serve.message c.in-Serve.instance c.requires.decision.1 (ap decision_of (sym c.in-Serve.is) ∙ c.requires.decision.2)).0
+    (at_serve c.args.frame.now c.requires.decision.0 c.in-Serve.message c.in-Serve.instance c.requires.decision.1 (ap decision_of (sym c.in-Serve.is) ∙ c.requires.decision.2)).0
 
 pub instance_diffs-requires-clause-instance : goal.instance_diffs-requires-clause-instance
 instance_diffs-requires-clause-instance c =
-    (at_serve c.args.mode.now c.requires.decision.0 c.in-Serve.message c.in-Serve.instance c.requires.decision.1 (ap decision_of (sym c.in-Serve.is) ∙ c.requires.decision.2)).1
+    (at_serve c.args.frame.now c.requires.decision.0 c.in-Serve.message c.in-Serve.instance c.requires.decision.1 (ap decision_of (sym c.in-Serve.is) ∙ c.requires.decision.2)).1
 
 pub instance_diffs-requires-clause-least : goal.instance_diffs-requires-clause-least
 instance_diffs-requires-clause-least c =
     let fits : FitsSigned w64 c.args.value = search rules in
-    subst (λ g. pos 1 ≤ℤ g) (sym (to_z-of_z w64 c.args.value fits)) (subst (λ (d : Decision). MayChoose c.args.mode.now c.args.rounds d c.args.value) (ap decision_of c.in-Serve.is) c.requires.value).0
+    subst (λ g. pos 1 ≤ℤ g) (sym (to_z-of_z w64 c.args.value fits)) (subst (λ (d : Decision). MayChoose c.args.frame.now c.args.rounds d c.args.value) (ap decision_of c.in-Serve.is) c.requires.value).0
 
 pub instance_diffs-requires-clause-most : goal.instance_diffs-requires-clause-most
 instance_diffs-requires-clause-most c =
     let fits : FitsSigned w64 c.args.value = search rules in
-    subst (λ g. g ≤ℤ pos (most_choice (numbers_at c.args.mode.now c.args.rounds c.in-Serve.message))) (sym (to_z-of_z w64 c.args.value fits)) (subst (λ (d : Decision). MayChoose c.args.mode.now c.args.rounds d c.args.value) (ap decision_of c.in-Serve.is) c.requires.value).1
+    subst (λ g. g ≤ℤ pos (most_choice (numbers_at c.args.frame.now c.args.rounds c.in-Serve.message))) (sym (to_z-of_z w64 c.args.value fits)) (subst (λ (d : Decision). MayChoose c.args.frame.now c.args.rounds d c.args.value) (ap decision_of c.in-Serve.is) c.requires.value).1
 
 pub pair_diffs-requires-clause-first : goal.pair_diffs-requires-clause-first
 pair_diffs-requires-clause-first c =
-    (at_order c.args.mode.now c.requires.decision.0 c.in-Order.first c.in-Order.second c.requires.decision.1 (ap decision_of (sym c.in-Order.is) ∙ c.requires.decision.2)).0
+    (at_order c.args.frame.now c.requires.decision.0 c.in-Order.first c.in-Order.second c.requires.decision.1 (ap decision_of (sym c.in-Order.is) ∙ c.requires.decision.2)).0
 
 pub pair_diffs-requires-clause-second : goal.pair_diffs-requires-clause-second
 pair_diffs-requires-clause-second c =
-    (at_order c.args.mode.now c.requires.decision.0 c.in-Order.first c.in-Order.second c.requires.decision.1 (ap decision_of (sym c.in-Order.is) ∙ c.requires.decision.2)).1
+    (at_order c.args.frame.now c.requires.decision.0 c.in-Order.first c.in-Order.second c.requires.decision.1 (ap decision_of (sym c.in-Order.is) ∙ c.requires.decision.2)).1
 
 pub pair_diffs-requires-clause-place : goal.pair_diffs-requires-clause-place
 pair_diffs-requires-clause-place c =
     let fits : FitsSigned w64 c.args.value = search rules in
-    subst (λ z. Contains (places (task_at c.args.mode.now c.in-Order.first) (task_at c.args.mode.now c.in-Order.second)) z) (sym (to_z-of_z w64 c.args.value fits)) (subst (λ (d : Decision). MayChoose c.args.mode.now c.args.rounds d c.args.value) (ap decision_of c.in-Order.is) c.requires.value)
+    subst (λ z. Contains (places (task_at c.args.frame.now c.in-Order.first) (task_at c.args.frame.now c.in-Order.second)) z) (sym (to_z-of_z w64 c.args.value fits)) (subst (λ (d : Decision). MayChoose c.args.frame.now c.args.rounds d c.args.value) (ap decision_of c.in-Order.is) c.requires.value)

@@ -8,7 +8,7 @@ use Rattle.constraint_set.proofs.choices.first_alternatives.Goals as goal
 pub first_choices-requires : goal.first_choices-requires
 first_choices-requires c =
     subst (λ (t : MessageTimes). IsServable t) (sym c.numbers_of-numbers.ensures)
-    (servable c.args.mode.now c.args.rounds c.args.message c.requires.valid c.requires.limits c.requires.rounds.0 c.requires.rounds.1 c.requires.message)
+    (servable c.args.frame.now c.args.rounds c.args.message c.kept.ensures.valid c.kept.ensures.limits c.requires.rounds.0 c.requires.rounds.1 c.requires.message)
 
 pub returns : goal.returns
 returns c =

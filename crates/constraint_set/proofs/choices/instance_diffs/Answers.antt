@@ -7,4 +7,4 @@ use Rattle.constraint_set.proofs.choices.instance_diffs.Goals as goal
 pub serve_diffs-requires-clause-times : goal.serve_diffs-requires-clause-times
 serve_diffs-requires-clause-times c =
     subst (λ (t : MessageTimes). IsServable t) (sym c.numbers_of-numbers.ensures)
-    (servable c.args.mode.now c.args.rounds c.args.message c.requires.valid c.requires.limits c.requires.rounds.0 c.requires.rounds.1 c.requires.message)
+    (servable c.args.frame.now c.args.rounds c.args.message c.kept.ensures.valid c.kept.ensures.limits c.requires.rounds.0 c.requires.rounds.1 c.requires.message)

@@ -7,6 +7,6 @@ use Rattle.constraint_set.proofs.schedule.make_table.Given as goal
 
 abbrev pub invariant-loop-message : goal.invariant-loop-message
 invariant-loop-message l = record {
-  first : l.first ≡ place l.mode l.message 0;
-  numbers : l.numbers.items ≡ map (λ i. (message_at l.mode i).number) (filter (names l.mode l.rounds l.choices l.round) (below l.message));
+  first : l.first ≡ place l.frame l.message 0;
+  numbers : l.numbers.items ≡ map (λ i. (message_at l.frame i).number) (filter (names l.frame l.rounds l.choices l.round) (below l.message));
 }

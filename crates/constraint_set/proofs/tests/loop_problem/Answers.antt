@@ -1,5 +1,5 @@
 use Rattle.std.proofs.Common.{arith}
-use Rattle.constraint_set.proofs.TestSets.{loop_rules, some_rounds, may_choose}
+use Rattle.constraint_set.proofs.TestSets.{loop_rules, some_rounds, may_choose, chosen_first}
 use Rattle.constraint_set.proofs.tests.loop_problem.Goals as goal
 
 pub make-requires-clause-rules : goal.make-requires-clause-rules
@@ -10,3 +10,6 @@ make-requires-clause-most g c = some_rounds c.in_ok-set.set 1 c.in_ok-set.ensure
 
 pub chosen_diffs-requires-clause-value : goal.chosen_diffs-requires-clause-value
 chosen_diffs-requires-clause-value g c = may_choose c.in_ok-set.set c.in_ok-problem.problem c.in_ok-set.ensures c.in_ok-problem.ensures
+
+pub alternatives-requires-2-clause-chosen : goal.alternatives-requires-2-clause-chosen
+alternatives-requires-2-clause-chosen g c = chosen_first c.in_ok-set.set c.in_ok-problem.problem c.in_ok-set.ensures c.in_ok-problem.ensures
