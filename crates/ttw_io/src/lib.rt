@@ -2,6 +2,9 @@
 #![tactic(auto)]
 
 mod buffer;
+mod line_reader;
+#[cfg(test)]
+mod line_tests;
 mod memory;
 mod outside;
 mod reading;
@@ -11,6 +14,7 @@ mod tests;
 mod writing;
 
 pub use buffer::Buffer;
+pub use line_reader::{LineEnd, LineReader};
 pub use memory::{MemFiles, MemSink, SureFiles, SureSink};
 pub use outside::{Failed, Files, Sink};
 pub use reading::{ReadEnd, read_all};
