@@ -9,3 +9,4 @@ pub mod Stores
 pub mod Testing
 pub mod Ticks
 pub mod TrailLemmas
+pub mod Turns

@@ -1,13 +1,13 @@
 -- Two queues that have each waiting variable once: one more, one less, and that there is room
-use Rattle.std.proofs.Common.{◌≡◌, ◌≢◌, ℕ, zero, suc, ◌+◌, ◌<◌, ◌≤◌, Bool, true, false, List, [], ◌∷◌, ◌++◌, length, set, take, refl, sym, ◌∙◌, ap, subst, arith, ◌⊎◌, inl, inr, ⊎_elim}
+use Rattle.std.proofs.Common.{◌≡◌, ◌≢◌, ℕ, zero, suc, ◌+◌, ◌<◌, ◌≤◌, Bool, true, false, List, [], ◌∷◌, ◌++◌, length, set, drop, get_or, refl, sym, ◌∙◌, ap, subst, arith, ◌⊎◌, inl, inr, ⊎_elim}
 use Rattle.std.specs.List.{Contains}
-use Rattle.std.proofs.Math.Seq.{take-append_seam}
-use Rattle.std.proofs.lemmas.Bool.{cases_eq, cases_lt, both_ways}
-use Rattle.std.proofs.lemmas.List.{length-append, length-take-le, get_or_append_left, get_or_push, get_or_default, get_or-take, get_or-set_same, get_or-set_other, get_or_past}
+use Rattle.std.proofs.Math.Seq.{drop-cons}
+use Rattle.std.proofs.lemmas.Bool.{cases_eq, cases_lt, cases_Bool, both_ways}
+use Rattle.std.proofs.lemmas.List.{length-append, get_or_append_left, get_or_push, get_or-set_same, get_or-set_other, get_or_past, drop_all}
 use Rattle.std.proofs.lemmas.List.Elements.{Contains-push, Contains-append_left}
 use Rattle.tick_num.proofs.Pigeons.{two_alike}
 use Rattle.diff_store.specs.Causes.{beside}
-use Rattle.diff_store.specs.Raising.{waits_in}
+use Rattle.diff_store.specs.Raising.{waits_in, NoneWaits}
 use Rattle.diff_store.specs.Queued.{Batch, Queued}
 
 waits_low : (ws : List Bool) (x : ℕ) → waits_in ws x ≡ true → x < length ws
@@ -95,8 +95,8 @@ module _ (now later : List ℕ) (ws : List Bool) (x : ℕ) (low : x < length ws)
   queued_room = batch_room later ws x low idle h.second
 
 -- ---- the next batch
-pub queued_next : (now later : List ℕ) (ws : List Bool) → now ≡ [] → Queued now later ws → Queued later now ws
-queued_next now later ws none h = record {
+queued_turn : (now later : List ℕ) (ws : List Bool) → now ≡ [] → Queued now later ws → Queued later now ws
+queued_turn now later ws none h = record {
   first = h.second;
   second = h.first;
   queued = λ x w. ⊎_elim
@@ -106,71 +106,77 @@ queued_next now later ws none h = record {
   apart = λ i j li lj e. h.apart j i lj li (sym e);
 }
 
--- ---- the last variable of the batch is taken
-module _ (now later : List ℕ) (ws : List Bool) (k : ℕ) (size : length now ≡ k + 1) (h : Queued now later ws) where
-  abbrev last : ℕ
-  last = beside now k
+-- ---- the first variable of the batch is taken
+module _ (x : ℕ) (us later : List ℕ) (ws : List Bool) (h : Queued (x ∷ us) later ws) where
+  first_waits : waits_in ws x ≡ true
+  first_waits = h.first.marked 0 (omega arith)
 
-  pub last_waits : waits_in ws last ≡ true
-  last_waits = h.first.marked k (omega (arith, size))
+  others : (i : ℕ) → i < length us → beside us i ≢ x
+  others i l e = h.first.once 0 (suc i) (omega arith) (omega (arith, l)) (sym e)
 
-  pub last_low : last < length ws
-  last_low = waits_low ws last last_waits
+  later_others : (i : ℕ) → i < length later → beside later i ≢ x
+  later_others i l e = h.apart 0 i (omega arith) l (sym e)
 
-  abbrev fewer : List ℕ
-  fewer = take k now
+  left : (y : ℕ) → y ≢ x → Contains (x ∷ us) y → Contains us y
+  left y ne (zero, l, e) = absurd (ne (sym e))
+  left y ne (suc i, l, e) = (i, omega (arith, l), e)
 
-  fewer_size : length fewer ≡ k
-  fewer_size = length-take-le k now (omega (arith, size))
-
-  fewer_at : (i : ℕ) → i < length fewer → beside fewer i ≡ beside now i
-  fewer_at i l = get_or-take k now i 0 (let s = fewer_size in omega (arith, l, s))
-
-  fewer_other : (i : ℕ) → i < length fewer → beside fewer i ≢ last
-  fewer_other i l e = let s = fewer_size in h.first.once i k (omega (arith, l, s)) (omega (arith, size)) (sym (fewer_at i l) ∙ e)
-
-  later_other : (i : ℕ) → i < length later → beside later i ≢ last
-  later_other i l e = h.apart k i (omega (arith, size)) l (sym e)
-
-  contains_fewer : (y : ℕ) → y ≢ last → Contains now y → Contains fewer y
-  contains_fewer y ne (i, l, e) = ⊎_elim
-      (λ (less : i < k). let s = fewer_size in (i, omega (arith, less, s), get_or-take k now i y less ∙ e))
-      (λ (ge : k ≤ i). absurd (ne (sym e ∙ get_or_default now i y 0 l ∙ ap (beside now) (let s : i ≡ k = omega (arith, l, ge, size) in s))))
-      (cases_lt i k)
-
-  pub queued_less : Queued fewer later (set ws last false)
-  queued_less = record {
+  first_taken : Queued us later (set ws x false)
+  first_taken = record {
     first = record {
-      marked = λ i l. let s = fewer_size in get_or-set_other ws last (beside fewer i) false false (fewer_other i l) ∙ ap (waits_in ws) (fewer_at i l) ∙ h.first.marked i (omega (arith, l, s, size));
-      once = λ i j less l e.
-          let s = fewer_size in
-          h.first.once i j less (omega (arith, l, s, size)) (sym (fewer_at i (omega (arith, less, l))) ∙ e ∙ fewer_at j l);
+      marked = λ i l. get_or-set_other ws x (beside us i) false false (others i l) ∙ h.first.marked (suc i) (omega (arith, l));
+      once = λ i j less l e. h.first.once (suc i) (suc j) (omega (arith, less)) (omega (arith, l)) e;
     };
     second = record {
-      marked = λ i l. get_or-set_other ws last (beside later i) false false (later_other i l) ∙ h.second.marked i l;
+      marked = λ i l. get_or-set_other ws x (beside later i) false false (later_others i l) ∙ h.second.marked i l;
       once = h.second.once;
     };
     queued = λ y w. ⊎_elim
-        (λ (e : y ≡ last). absurd (both_ways (waits_in (set ws last false) y) (ap (waits_in (set ws last false)) e ∙ get_or-set_same ws last false false last_low) w))
-        (λ (ne : y ≡ last → ⊥).
-        let ne' : y ≢ last = ne in
+        (λ (e : y ≡ x). absurd (both_ways (waits_in (set ws x false) y) (ap (waits_in (set ws x false)) e ∙ get_or-set_same ws x false false (waits_low ws x first_waits)) w))
+        (λ (ne : y ≡ x → ⊥).
+        let ne' : y ≢ x = ne in
         ⊎_elim
-        (λ (c : Contains now y). inl (contains_fewer y ne' c))
+        (λ (c : Contains (x ∷ us) y). inl (left y ne' c))
         (λ (c : Contains later y). inr c)
-        (h.queued y (sym (get_or-set_other ws last y false false ne') ∙ w)))
-        (cases_eq y last);
-    apart = λ i j li lj e. let s = fewer_size in h.apart i j (omega (arith, li, s, size)) lj (sym (fewer_at i li) ∙ e);
+        (h.queued y (sym (get_or-set_other ws x y false false ne') ∙ w)))
+        (cases_eq y x);
+    apart = λ i j li lj e. h.apart (suc i) j (omega (arith, li)) lj e;
   }
 
--- the last of a batch is taken
-pub queued_taken : (now us later : List ℕ) (ws : List Bool) (x : ℕ) → now ≡ us ++ x ∷ [] → Queued now later ws → Queued us later (set ws x false)
-queued_taken now us later ws x e h =
-    let k = length us in
-    let size : length now ≡ k + 1 = (let a = ap length e in let b = length-append us (x ∷ []) in omega (arith, a, b)) in
-    let is : beside now k ≡ x = ap (λ q. beside q k) e ∙ get_or_push us x 0 k refl in
-    let few : take k now ≡ us = ap (take k) e ∙ take-append_seam us (x ∷ []) in
-    subst (λ y. Queued us later (set ws y false)) is
-    (subst (λ (q : List ℕ). Queued q later (set ws (beside now k) false)) few (queued_less now later ws k size h))
+-- the variable at the front of what is left of a batch
+module _ (now later : List ℕ) (ws : List Bool) (at x : ℕ) (low : at < length now) (is : x ≡ get_or now at x) (h : Queued (drop at now) later ws) where
+  front : drop at now ≡ x ∷ drop (at + 1) now
+  front = drop-cons now at x low ∙ ap (λ (y : ℕ). y ∷ drop (suc at) now) (sym is) ∙ ap (λ k. x ∷ drop k now) (let e : suc at ≡ at + 1 = omega arith in e)
+
+  opened : Queued (x ∷ drop (at + 1) now) later ws
+  opened = subst (λ (q : List ℕ). Queued q later ws) front h
+
+  pub front_low : x < length ws
+  front_low = waits_low ws x (opened.first.marked 0 (omega arith))
+
+  pub front_waits : waits_in ws x ≡ true
+  front_waits = opened.first.marked 0 (omega arith)
+
+  pub front_taken : Queued (drop (at + 1) now) later (set ws x false)
+  front_taken = first_taken x (drop (at + 1) now) later ws opened
+
+-- the next batch, where all of this one is taken
+pub next_batch : (now later now' later' : List ℕ) (ws : List Bool) (taken : ℕ) → length now ≤ taken → now' ≡ later → later' ≡ [] → Queued (drop taken now) later ws → Queued now' later' ws
+next_batch now later now' later' ws taken all first second h =
+    let none : drop taken now ≡ [] = drop_all taken now all in
+    subst (λ (q : List ℕ). Queued now' q ws) (sym second)
+    (subst (λ (q : List ℕ). Queued q [] ws) (sym first)
+    (subst (λ (q : List ℕ). Queued later q ws) none (queued_turn (drop taken now) later ws none h)))
+
+-- where neither batch has a variable none waits
+pub none_left : (now : List ℕ) (ws : List Bool) → length now ≡ 0 → Queued now [] ws → NoneWaits ws
+none_left now ws none h x = ⊎_elim
+    (λ (yes : waits_in ws x ≡ true). ⊎_elim
+    (λ (c : Contains now x). absurd (let l = c.1 in omega (arith, l, none)))
+    (λ (c : Contains [] x). absurd (let l = c.1 in omega (arith, l)))
+    (h.queued x yes))
+    (λ (no : waits_in ws x ≡ false). no)
+    (cases_Bool (waits_in ws x))
 
 pub empty_is : (xs : List ℕ) → length xs ≡ 0 → xs ≡ []
 empty_is [] e = refl

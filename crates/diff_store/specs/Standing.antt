@@ -31,7 +31,7 @@ pub record Standing (s : Inside) : Type 0 where
   pub answered : Answered s.list.items s.trail s.values.items s.causes.items (drop s.start s.cycle.items)
   pub values : length s.values.items ≡ s.variables
   pub causes : length s.causes.items ≡ s.variables
-  pub chain : length s.chain.items ≡ s.variables
+  pub chain : length s.chain ≡ s.variables
   pub cycle : length s.cycle.items ≡ s.variables
   pub start : s.start ≤ s.variables
   pub pushes : s.trail.pushes ≡ s.constraints

@@ -12,6 +12,7 @@ ghost use Rattle.diff_store.specs.Trails.{SamePast};
 use crate::cycles::mark_chain;
 use crate::raising::{answer_newest, is_met};
 use crate::trail::Trail;
+use crate::turn_marks::Marks;
 use crate::worklist::Worklist;
 use tick_num::{Diff, Time};
 
@@ -22,7 +23,7 @@ pub(crate) fn answer(
     list: &[Diff],
     heads: &[Option<u32>],
     nexts: &[Option<u32>],
-    chain: &mut [bool],
+    chain: &mut Marks,
     values: &mut [Time],
     causes: &mut [u32],
     trail: &mut Trail,
@@ -56,6 +57,7 @@ pub(crate) fn answer(
     ensures starts { length trail.new.starts ≡ length list.now }
     ensures pushes { trail.new.pushes ≡ trail.old.pushes }
     ensures size { length trail.new.kept ≡ length trail.old.kept }
+    ensures chain { length chain.new ≡ length chain.old }
     ensures waits { length worklist.new ≡ length worklist.old }
 {
     trail.open();

@@ -4,10 +4,11 @@ ghost use Rattle.std.specs.Prelude.{◌≡◌, ℕ, ◌-◌, ◌<◌, length, dr
 ghost use Rattle.tick_num.specs.Differences.{InRange, NegativeCycle, listed};
 ghost use Rattle.diff_store.specs.Causes.{beside, marked, Chain, HeldByFirst, LeadsHome};
 
+use crate::turn_marks::Marks;
 use tick_num::{Diff, Time};
 
 /// Marks the variables of the chain of causes from `x` down.
-pub(crate) fn mark_chain(list: &[Diff], values: &[Time], causes: &[u32], x: u32, chain: &mut [bool])
+pub(crate) fn mark_chain(list: &[Diff], values: &[Time], causes: &[u32], x: u32, chain: &mut Marks)
     requires range { InRange (length values.now) list.now }
     requires x { x < length values.now }
     requires causes { length causes.now ≡ length values.now }
@@ -15,17 +16,18 @@ pub(crate) fn mark_chain(list: &[Diff], values: &[Time], causes: &[u32], x: u32,
         (listed values.now) (beside causes.now) }
     requires size { length chain.old ≡ length values.now }
     ensures own { marked chain.new x ≡ true }
+    ensures size { length chain.new ≡ length chain.old }
     ensures chain { Chain list.now (listed values.now) (beside causes.now) chain.new x }
 {
-    chain.fill(false);
-    chain[x as usize] = true;
+    chain.clear();
+    chain.mark(x);
     let mut variable = x;
     for _step in 0..values.len() {
         if values[variable as usize] <= 0 {
             return;
         }
         variable = list[causes[variable as usize] as usize].x;
-        chain[variable as usize] = true;
+        chain.mark(variable);
     }
 }
 

@@ -8,6 +8,7 @@ mod cycles;
 mod raising;
 mod store;
 mod trail;
+mod turn_marks;
 mod worklist;
 
 pub use store::{Pushed, Store};

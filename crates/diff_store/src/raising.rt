@@ -11,6 +11,7 @@ ghost use Rattle.diff_store.specs.Raising.{Raising, NoneWaits, left_to_do};
 ghost use Rattle.diff_store.specs.Trails.{Kept, KeepsPast};
 
 use crate::trail::Trail;
+use crate::turn_marks::Marks;
 use crate::worklist::Worklist;
 use tick_num::{Diff, Time};
 
@@ -31,7 +32,7 @@ pub(crate) fn is_met(values: &[Time], d: Diff) -> bool
 fn raise(
     list: &[Diff],
     position: u32,
-    chain: &[bool],
+    chain: &Marks,
     values: &mut [Time],
     causes: &mut [u32],
     trail: &mut Trail,
@@ -62,7 +63,7 @@ fn raise(
     if forced <= value {
         return true;
     }
-    if chain[d.y as usize] {
+    if chain.has(d.y) {
         return false;
     }
     trail.keep(d.y, value, causes[d.y as usize]);
@@ -79,7 +80,7 @@ fn raise_from(
     heads: &[Option<u32>],
     nexts: &[Option<u32>],
     variable: u32,
-    chain: &[bool],
+    chain: &Marks,
     values: &mut [Time],
     causes: &mut [u32],
     trail: &mut Trail,
@@ -121,7 +122,7 @@ fn settle(
     list: &[Diff],
     heads: &[Option<u32>],
     nexts: &[Option<u32>],
-    chain: &[bool],
+    chain: &Marks,
     values: &mut [Time],
     causes: &mut [u32],
     trail: &mut Trail,
@@ -161,7 +162,7 @@ pub(crate) fn answer_newest(
     list: &[Diff],
     heads: &[Option<u32>],
     nexts: &[Option<u32>],
-    chain: &[bool],
+    chain: &Marks,
     values: &mut [Time],
     causes: &mut [u32],
     trail: &mut Trail,

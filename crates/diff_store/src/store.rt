@@ -8,6 +8,7 @@ use crate::answering::answer;
 use crate::chains::{link, no_heads, unlink};
 use crate::cycles::close;
 use crate::trail::Trail;
+use crate::turn_marks::Marks;
 use crate::worklist::Worklist;
 use std::alloc::{AllocError, Global};
 use std::marker::Model;
@@ -39,8 +40,8 @@ pub struct Store {
     values: Vec<Time>,
     /// The position of the constraint that last raised each variable.
     causes: Vec<u32>,
-    /// Whether each variable is on the chain of causes from the newest constraint's `x` down.
-    chain: Vec<bool>,
+    /// The variables of the chain of causes from the `x` of the newest constraint that raised a value down.
+    chain: Marks,
     /// What the pushes have replaced.
     trail: Trail,
     /// A cycle of positions, at the end.
@@ -82,7 +83,7 @@ impl Store {
             nexts: Vec::with_capacity(alloc, len)?,
             values: vec![in alloc; 0; variables]?,
             causes: vec![in alloc; 0; variables]?,
-            chain: vec![in alloc; false; variables]?,
+            chain: Marks::reserve(alloc, variables)?,
             trail: Trail::reserve(alloc, variables, len)?,
             cycle: vec![in alloc; 0; variables]?,
             start: 0,

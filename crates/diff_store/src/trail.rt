@@ -5,6 +5,7 @@ ghost use Rattle.tick_num.specs.Differences.{listed};
 ghost use Rattle.diff_store.specs.Causes.{beside};
 ghost use Rattle.diff_store.specs.Trails.{value_before, cause_before, SamePast, Kept, KeepsPast, Replaces};
 
+use crate::turn_marks::Marks;
 use std::alloc::{AllocError, Global};
 use std::marker::Model;
 use tick_num::Time;
@@ -26,8 +27,8 @@ pub(crate) struct Trail {
     entries: Vec<Was>,
     /// For each push, where its entries start.
     starts: Vec<usize>,
-    /// Whether each variable has an entry of the newest push.
-    kept: Vec<bool>,
+    /// The variables that have an entry of the newest push.
+    kept: Marks,
 }
 
 impl Model for Trail {
@@ -40,18 +41,18 @@ impl Model for Trail {
       pushes = t.pushes;
       entries = t.entries.items;
       starts = t.starts.items;
-      kept = t.kept.items;
+      kept = t.kept;
     } };
 
-    ghost invariant = { λ t. Ordered (length t.kept.items) (record {
+    ghost invariant = { λ t. Ordered (length t.kept) (record {
       pushes = t.pushes;
       entries = t.entries.items;
       starts = t.starts.items;
-      kept = t.kept.items;
+      kept = t.kept;
     })
         × (length t.starts.items ≤ t.pushes)
         × (t.pushes ≤ vec_capacity t.starts)
-        × (length t.kept.items * t.pushes ≤ vec_capacity t.entries) };
+        × (length t.kept * t.pushes ≤ vec_capacity t.entries) };
 }
 
 impl Trail {
@@ -68,7 +69,7 @@ impl Trail {
             pushes: len,
             entries: Vec::with_capacity(alloc, n * len)?,
             starts: Vec::with_capacity(alloc, len)?,
-            kept: vec![in alloc; false; n]?,
+            kept: Marks::reserve(alloc, n)?,
         })
     }
 
@@ -95,7 +96,7 @@ impl Trail {
         ensures pushes { self.new.pushes ≡ self.old.pushes }
         ensures size { length self.new.kept ≡ length self.old.kept }
     {
-        self.kept.fill(false);
+        self.kept.clear();
     }
 
     /// Keeps what a variable has, where the newest push has not replaced it yet.
@@ -105,10 +106,10 @@ impl Trail {
         ensures { (v v' : ℕ → ℤ) (c c' : ℕ → ℕ) → Replaces variable value cause v v' c c' →
             KeepsPast self.old self.new v v' c c' }
     {
-        if self.kept[variable as usize] {
+        if self.kept.has(variable) {
             return;
         }
-        self.kept[variable as usize] = true;
+        self.kept.mark(variable);
         self.entries
             .push(Was {
                 variable,

@@ -7,12 +7,14 @@ use std::alloc::{AllocError, Global};
 use std::marker::Model;
 use std::mem::swap;
 
-/// Variables that wait, each once, taken batch by batch: those that come while a batch is taken are
-/// the next one. Of a batch the last comes first, since chains of constraints have the last first.
+/// Variables that wait, each once, the first that came first: those that come while a batch is taken
+/// are the next one.
 #[derive(Drop)]
 pub(crate) struct Worklist {
     /// The batch that is taken.
     now: Vec<u32>,
+    /// How many of the batch are taken already.
+    taken: usize,
     /// The next one.
     later: Vec<u32>,
     /// Whether each variable waits.
@@ -20,14 +22,15 @@ pub(crate) struct Worklist {
 }
 
 impl Model for Worklist {
-    ghost use Rattle.std.specs.Prelude.{List, Bool, length, ◌≤◌, vec_capacity};
+    ghost use Rattle.std.specs.Prelude.{List, Bool, length, drop, ◌≤◌, vec_capacity};
     ghost use Rattle.diff_store.specs.Queued.{Queued};
 
     ghost Value = { List Bool };
 
     ghost view = { λ w. w.waits.items };
 
-    ghost invariant = { λ w. Queued w.now.items w.later.items w.waits.items
+    ghost invariant = { λ w. Queued (drop w.taken w.now.items) w.later.items w.waits.items
+        × (w.taken ≤ length w.now.items)
         × (length w.waits.items ≤ vec_capacity w.now)
         × (length w.waits.items ≤ vec_capacity w.later) };
 }
@@ -39,6 +42,7 @@ impl Worklist {
     {
         Ok(Worklist {
             now: Vec::with_capacity(alloc, n)?,
+            taken: 0,
             later: Vec::with_capacity(alloc, n)?,
             waits: vec![in alloc; false; n]?,
         })
@@ -64,12 +68,20 @@ impl Worklist {
         ensures none { IfNone result (NoneWaits self.new) }
         ensures same { IfNone result (self.new ≡ self.old) }
     {
-        if let Some(variable) = self.now.pop() {
+        if self.taken < self.now.len() {
+            let variable = self.now[self.taken];
+            self.taken += 1;
             self.waits[variable as usize] = false;
             return Some(variable);
         }
         swap(&mut self.now, &mut self.later);
-        let variable = self.now.pop()?;
+        self.later.truncate(0);
+        self.taken = 0;
+        if self.now.len() == 0 {
+            return None;
+        }
+        let variable = self.now[0];
+        self.taken = 1;
         self.waits[variable as usize] = false;
         Some(variable)
     }

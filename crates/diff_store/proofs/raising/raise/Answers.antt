@@ -1,4 +1,4 @@
-use Rattle.std.proofs.Common.{◌≢◌, ◌≤◌, ℤ, pos, ◌-ℤ◌, List, Bool, set, refl, subst, sym, arith}
+use Rattle.std.proofs.Common.{◌≢◌, ◌≤◌, ℤ, pos, ◌-ℤ◌, List, Bool, set, refl, subst, sym, ◌∙◌, arith}
 use Rattle.std.proofs.lemmas.Bool.{both_ways}
 use Rattle.std.proofs.lemmas.List.{get_or-set_other}
 use Rattle.tick_num.specs.Differences.{diff, listed}
@@ -20,8 +20,8 @@ returns-then-forced-value-clause-state c =
     met_state c.args.list.now c.args.position c.args.values.now c.args.causes.now c.args.chain.now c.args.worklist.now c.requires.within c.requires.state
     (test_met (v d.x) d.c (v d.y) (modest c.args.list.now c.args.position c.args.values.now c.args.causes.now c.args.chain.now c.args.worklist.now c.requires.within c.requires.state c.requires.small) (value_zero c.args.list.now c.args.position c.args.values.now c.args.causes.now c.args.chain.now c.args.worklist.now c.requires.within c.requires.state c.requires.small d.y) (value_top c.args.list.now c.args.position c.args.values.now c.args.causes.now c.args.chain.now c.args.worklist.now c.requires.within c.requires.state c.requires.small d.y) c.if-forced-value.true)
 
-pub bounds-chain-d : goal.bounds-chain-d
-bounds-chain-d c =
+pub has-requires : goal.has-requires
+has-requires c =
     let l = (c.requires.range c.args.position (diff 0 0 (pos 0)) c.requires.within).1 in
     let e = c.requires.chain in
     omega (arith, l, e)
@@ -32,13 +32,13 @@ bounds-causes-d c =
     let e = c.requires.state.causes_size in
     omega (arith, l, e)
 
-pub returns-then-chain-d-clause-home : goal.returns-then-chain-d-clause-home
-returns-then-chain-d-clause-home c =
+pub returns-then-has-clause-home : goal.returns-then-has-clause-home
+returns-then-has-clause-home c =
     let d = at c.args.list.now c.args.position in
     let v = listed c.args.values.now in
     stopped_home c.args.list.now c.args.position c.args.values.now c.args.causes.now c.args.chain.now c.args.worklist.now c.requires.within c.requires.state
     (test_broken (v d.x) d.c (v d.y) (modest c.args.list.now c.args.position c.args.values.now c.args.causes.now c.args.chain.now c.args.worklist.now c.requires.within c.requires.state c.requires.small) (value_zero c.args.list.now c.args.position c.args.values.now c.args.causes.now c.args.chain.now c.args.worklist.now c.requires.within c.requires.state c.requires.small d.y) (value_top c.args.list.now c.args.position c.args.values.now c.args.causes.now c.args.chain.now c.args.worklist.now c.requires.within c.requires.state c.requires.small d.y) c.if-forced-value.false)
-    c.requires.small c.if-chain-d.true
+    c.requires.small (sym c.has.ensures ∙ c.if-has.true)
 
 pub returns-clause-state : goal.returns-clause-state
 returns-clause-state c =
@@ -52,7 +52,7 @@ returns-clause-state c =
     (subst (λ (ws : List Bool). Raising ds (set vs d.y (v d.x -ℤ d.c)) cs' c.args.chain.now ws d.x c.args.position) (sym c.add.ensures)
     (rises_state c.args.list.now c.args.position c.args.values.now c.args.causes.now c.args.chain.now c.args.worklist.now c.requires.within c.requires.state
     (test_broken (v d.x) d.c (v d.y) (modest c.args.list.now c.args.position c.args.values.now c.args.causes.now c.args.chain.now c.args.worklist.now c.requires.within c.requires.state c.requires.small) (value_zero c.args.list.now c.args.position c.args.values.now c.args.causes.now c.args.chain.now c.args.worklist.now c.requires.within c.requires.state c.requires.small d.y) (value_top c.args.list.now c.args.position c.args.values.now c.args.causes.now c.args.chain.now c.args.worklist.now c.requires.within c.requires.state c.requires.small d.y) c.if-forced-value.false)
-    (λ on. both_ways (marked c.args.chain.now d.y) c.if-chain-d.false on)
+    (λ on. both_ways (marked c.args.chain.now d.y) (sym c.has.ensures ∙ c.if-has.false) on)
     (c.requires.range c.args.position (diff 0 0 (pos 0)) c.requires.within).1))
 
 pub returns-clause-falls : goal.returns-clause-falls

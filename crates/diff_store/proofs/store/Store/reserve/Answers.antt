@@ -17,8 +17,8 @@ invariant_of-result c =
     let heads = c.in_ok-no_heads.ensures in
     let nexts = c.in_ok-with_capacity-2.ensures.items in
     let values : c.in_ok-vec.field-0.items ≡ replicate n (pos 0) = search rules in
-    let starts = c.in_ok-reserve.ensures.starts in
-    let waits = c.in_ok-reserve-2.ensures in
+    let starts = c.in_ok-reserve-2.ensures.starts in
+    let waits = c.in_ok-reserve-3.ensures in
     record {
       few = c.requires.few;
       long = c.requires.long;
@@ -28,17 +28,17 @@ invariant_of-result c =
       chained = subst (λ (ds : List Diff). Chained n ds c.in_ok-no_heads.field-0.items c.in_ok-with_capacity-2.field-0.items) (sym list)
           (subst (λ (hs : List (Option ℕ)). Chained n [] hs c.in_ok-with_capacity-2.field-0.items) (sym heads)
           (subst (λ (ns : List (Option ℕ)). Chained n [] (replicate n None) ns) (sym nexts) (empty_chained n)));
-      answered = subst (λ (ds : List Diff). Answered ds c.in_ok-reserve.field-0 c.in_ok-vec.field-0.items c.in_ok-vec-2.field-0.items c.in_ok-vec-4.field-0.items) (sym list)
-          (subst (λ (vs : List ℤ). Answered [] c.in_ok-reserve.field-0 vs c.in_ok-vec-2.field-0.items c.in_ok-vec-4.field-0.items) (sym values)
-          (empty_answered c.in_ok-reserve.field-0 c.in_ok-vec-2.field-0.items c.in_ok-vec-4.field-0.items n starts));
+      answered = subst (λ (ds : List Diff). Answered ds c.in_ok-reserve-2.field-0 c.in_ok-vec.field-0.items c.in_ok-vec-2.field-0.items c.in_ok-vec-3.field-0.items) (sym list)
+          (subst (λ (vs : List ℤ). Answered [] c.in_ok-reserve-2.field-0 vs c.in_ok-vec-2.field-0.items c.in_ok-vec-3.field-0.items) (sym values)
+          (empty_answered c.in_ok-reserve-2.field-0 c.in_ok-vec-2.field-0.items c.in_ok-vec-3.field-0.items n starts));
       values = let l = c.in_ok-vec.ensures.len in omega (arith, l);
       causes = let l = c.in_ok-vec-2.ensures.len in omega (arith, l);
-      chain = let l = c.in_ok-vec-3.ensures.len in omega (arith, l);
-      cycle = let l = c.in_ok-vec-4.ensures.len in omega (arith, l);
+      chain = ap length c.in_ok-reserve.ensures ∙ length-replicate n false;
+      cycle = let l = c.in_ok-vec-3.ensures.len in omega (arith, l);
       start = omega arith;
-      pushes = c.in_ok-reserve.ensures.pushes;
+      pushes = c.in_ok-reserve-2.ensures.pushes;
       starts = ap length starts ∙ sym (ap length list);
-      kept = c.in_ok-reserve.ensures.kept;
+      kept = c.in_ok-reserve-2.ensures.kept;
       waits = ap length waits ∙ length-replicate n false;
       none_waits = subst NoneWaits (sym waits) (none_waits n);
       list_room = c.in_ok-with_capacity.ensures.capacity;
