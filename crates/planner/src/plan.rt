@@ -39,7 +39,7 @@ fn part(refuted: Vec<Tree>, schedule: Option<Schedule>) -> ModePart
 /// that has a schedule. Its schedule has the fewest rounds, and it has none exactly where no number of rounds has one.
 /// `Spent` comes exactly where the cost of the mode is above `budget`.
 ///
-/// `docs/PLAN_DOCUMENT.md` says what a plan is, and what the search visits.
+/// `docs/SEARCH.md` says what the search visits, `docs/PLAN_DOCUMENT.md` what a plan is.
 pub fn plan_mode(
     alloc: Global,
     set: &ModeSet,
