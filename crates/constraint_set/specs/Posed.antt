@@ -33,9 +33,7 @@ pub record IsFramed (m : PlainMode) (h n : ℕ) (fs : List Bool) : Type 0 where
 
 -- there is room for the rounds, and the chains, the constraints that always hold and the decisions are those of the problem
 pub record Ready (p : Posed) (cs ds : List Diff) (es : List Decision) : Type 0 where
-  pub some : 1 ≤ p.rounds
   pub most : p.rounds ≤ most_rounds p.mode
-  pub few : p.rounds ≤ 256
   pub chains : cs ≡ chains_of p.mode
   pub list : ds ≡ base p.mode p.rounds
   pub all : es ≡ decisions p.mode

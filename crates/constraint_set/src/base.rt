@@ -11,7 +11,7 @@ ghost use Rattle.sched_model.specs.ValidMode.{IsValid};
 ghost use Rattle.constraint_set.specs.Posed.{behind, chains_of};
 
 use crate::bounds::{at_least, at_most, at_most_less};
-use crate::frame::Frame;
+use crate::frame::{Frame, Rounds};
 use std::alloc::{AllocError, Global};
 use tick_num::Diff;
 
@@ -44,31 +44,34 @@ fn add_next_round(list: &mut Vec<Diff>, frame: &Frame, j: u32) -> Result<(), All
 }
 
 /// Adds the constraints of each two rounds that follow one another.
-fn add_rounds(list: &mut Vec<Diff>, frame: &Frame, rounds: u32) -> Result<(), AllocError>
-    requires rounds { (1 ≤ rounds) × (rounds ≤ 256) }
+fn add_rounds(list: &mut Vec<Diff>, frame: &Frame, rounds: Rounds) -> Result<(), AllocError>
     ensures { IfOk result (λ _. list.new.items ≡ list.old.items ++ flat_map (next_round frame.now) (below (rounds - 1))) }
 {
-    for j in 0..rounds - 1 {
+    for j in 0..rounds.get() - 1 {
         add_next_round(list, frame, j)?;
     }
     Ok(())
 }
 
 /// Adds the constraints of the last round and of the first one of the next hyperperiod.
-fn add_turn(list: &mut Vec<Diff>, frame: &Frame, rounds: u32) -> Result<(), AllocError>
-    requires rounds { (1 ≤ rounds) × (rounds ≤ 256) }
+fn add_turn(list: &mut Vec<Diff>, frame: &Frame, rounds: Rounds) -> Result<(), AllocError>
     ensures { IfOk result (λ _. list.new.items ≡ list.old.items ++ turn frame.now rounds) }
 {
     let ticks = frame.ticks();
-    let end = at_most_less(rounds - 1, 0, ticks, frame.round());
-    let next = at_most_less(0, rounds - 1, frame.gap(), ticks);
+    let last = rounds.get() - 1;
+    let end = at_most_less(last, 0, ticks, frame.round());
+    let next = at_most_less(0, last, frame.gap(), ticks);
     add_two(list, end, next)?;
     Ok(())
 }
 
 /// Adds the constraints of the task's first start.
-fn add_task(list: &mut Vec<Diff>, frame: &Frame, rounds: u32, task: u32) -> Result<(), AllocError>
-    requires rounds { rounds ≤ 256 }
+fn add_task(
+    list: &mut Vec<Diff>,
+    frame: &Frame,
+    rounds: Rounds,
+    task: u32,
+) -> Result<(), AllocError>
     requires task { task < length frame.now.tasks }
     ensures { IfOk result (λ _. list.new.items ≡ list.old.items ++ of_task frame.now rounds task) }
 {
@@ -84,8 +87,7 @@ fn add_task(list: &mut Vec<Diff>, frame: &Frame, rounds: u32, task: u32) -> Resu
 }
 
 /// Adds the constraints of the tasks' first starts.
-fn add_tasks(list: &mut Vec<Diff>, frame: &Frame, rounds: u32) -> Result<(), AllocError>
-    requires rounds { rounds ≤ 256 }
+fn add_tasks(list: &mut Vec<Diff>, frame: &Frame, rounds: Rounds) -> Result<(), AllocError>
     ensures { IfOk result (λ _. list.new.items ≡ list.old.items ++ flat_map (of_task frame.now rounds) (below (length frame.now.tasks))) }
 {
     for task in 0..frame.task_count() {
@@ -98,11 +100,10 @@ fn add_tasks(list: &mut Vec<Diff>, frame: &Frame, rounds: u32) -> Result<(), All
 fn add_producer(
     list: &mut Vec<Diff>,
     frame: &Frame,
-    rounds: u32,
+    rounds: Rounds,
     message: u32,
     producer: u32,
 ) -> Result<(), AllocError>
-    requires rounds { rounds ≤ 256 }
     requires message { message < length frame.now.messages }
     requires producer { producer < length frame.now.tasks }
     ensures { IfOk result (λ _. list.new.items ≡ list.old.items ++ of_producer frame.now rounds message producer) }
@@ -120,11 +121,10 @@ fn add_producer(
 fn add_consumer(
     list: &mut Vec<Diff>,
     frame: &Frame,
-    rounds: u32,
+    rounds: Rounds,
     message: u32,
     consumer: u32,
 ) -> Result<(), AllocError>
-    requires rounds { rounds ≤ 256 }
     requires message { message < length frame.now.messages }
     requires consumer { consumer < length frame.now.tasks }
     ensures { IfOk result (λ _. list.new.items ≡ list.old.items ++ of_consumer frame.now rounds message consumer) }
@@ -141,11 +141,10 @@ fn add_consumer(
 fn add_producers(
     list: &mut Vec<Diff>,
     frame: &Frame,
-    rounds: u32,
+    rounds: Rounds,
     message: u32,
     producers: &[u32],
 ) -> Result<(), AllocError>
-    requires rounds { rounds ≤ 256 }
     requires message { message < length frame.now.messages }
     requires producers { All (λ a. a < length frame.now.tasks) producers.now }
     ensures { IfOk result (λ _. list.new.items ≡ list.old.items ++ flat_map (of_producer frame.now rounds message) producers.now) }
@@ -160,11 +159,10 @@ fn add_producers(
 fn add_consumers(
     list: &mut Vec<Diff>,
     frame: &Frame,
-    rounds: u32,
+    rounds: Rounds,
     message: u32,
     consumers: &[u32],
 ) -> Result<(), AllocError>
-    requires rounds { rounds ≤ 256 }
     requires message { message < length frame.now.messages }
     requires consumers { All (λ b. b < length frame.now.tasks) consumers.now }
     ensures { IfOk result (λ _. list.new.items ≡ list.old.items ++ flat_map (of_consumer frame.now rounds message) consumers.now) }
@@ -179,10 +177,9 @@ fn add_consumers(
 fn add_message(
     list: &mut Vec<Diff>,
     frame: &Frame,
-    rounds: u32,
+    rounds: Rounds,
     message: u32,
 ) -> Result<(), AllocError>
-    requires rounds { rounds ≤ 256 }
     requires message { message < length frame.now.messages }
     ensures { IfOk result (λ _. list.new.items ≡ list.old.items ++ of_message frame.now rounds message) }
 {
@@ -199,8 +196,7 @@ fn add_message(
 }
 
 /// Adds the constraints of the messages.
-fn add_messages(list: &mut Vec<Diff>, frame: &Frame, rounds: u32) -> Result<(), AllocError>
-    requires rounds { rounds ≤ 256 }
+fn add_messages(list: &mut Vec<Diff>, frame: &Frame, rounds: Rounds) -> Result<(), AllocError>
     ensures { IfOk result (λ _. list.new.items ≡ list.old.items ++ flat_map (of_message frame.now rounds) (below (length frame.now.messages))) }
 {
     for message in 0..frame.message_count() {
@@ -210,8 +206,7 @@ fn add_messages(list: &mut Vec<Diff>, frame: &Frame, rounds: u32) -> Result<(), 
 }
 
 /// Adds the constraint of a chain, in which tasks go by their places.
-fn add_chain(list: &mut Vec<Diff>, rounds: u32, chain: Diff) -> Result<(), AllocError>
-    requires rounds { rounds ≤ 256 }
+fn add_chain(list: &mut Vec<Diff>, rounds: Rounds, chain: Diff) -> Result<(), AllocError>
     requires end { chain.x < 128 }
     requires start { chain.y < 128 }
     ensures { IfOk result (λ _. list.new.items ≡ list.old.items ++ behind rounds chain ∷ []) }
@@ -219,8 +214,8 @@ fn add_chain(list: &mut Vec<Diff>, rounds: u32, chain: Diff) -> Result<(), Alloc
     add_one(
         list,
         Diff {
-            x: rounds + chain.x,
-            y: rounds + chain.y,
+            x: rounds.get() + chain.x,
+            y: rounds.get() + chain.y,
             c: chain.c,
         },
     )?;
@@ -228,9 +223,8 @@ fn add_chain(list: &mut Vec<Diff>, rounds: u32, chain: Diff) -> Result<(), Alloc
 }
 
 /// Adds the constraints of the chains.
-fn add_chains(list: &mut Vec<Diff>, rounds: u32, chains: &[Diff]) -> Result<(), AllocError>
-    requires rounds { rounds ≤ 256 }
-    requires tasks { All (λ d. (d.x < 128) × (d.y < 128)) chains.now }
+fn add_chains(list: &mut Vec<Diff>, rounds: Rounds, chains: &[Diff]) -> Result<(), AllocError>
+    requires { All (λ d. (d.x < 128) × (d.y < 128)) chains.now }
     ensures { IfOk result (λ _. list.new.items ≡ list.old.items ++ map (behind rounds) chains.now) }
 {
     for chain in chains {
@@ -244,10 +238,9 @@ pub(crate) fn make_base(
     alloc: Global,
     frame: &Frame,
     chains: &[Diff],
-    rounds: u32,
+    rounds: Rounds,
 ) -> Result<Vec<Diff>, AllocError>
     requires chains { chains.now ≡ chains_of frame.now }
-    requires rounds { (1 ≤ rounds) × (rounds ≤ 256) }
     ensures { IfOk result (λ v. v.items ≡ base frame.now rounds) }
 {
     frame.kept();

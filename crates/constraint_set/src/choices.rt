@@ -7,21 +7,25 @@ ghost use Rattle.sched_model.specs.ConstraintProblem.{alternatives_of, chosen, d
 ghost use Rattle.sched_model.specs.OpenPrefix.{Chosen};
 ghost use Rattle.sched_model.specs.ModeLimits.{IsLimited};
 ghost use Rattle.sched_model.specs.ValidMode.{IsValid};
-ghost use Rattle.round_service.specs.Serving.{most_choice};
+ghost use Rattle.round_service.specs.Serving.{IsServable, most_choice};
+ghost use Rattle.node_use.specs.Between.{IsTimed};
 ghost use Rattle.constraint_set.specs.Numbers.{numbers_at, times_at};
 ghost use Rattle.constraint_set.specs.Decided.{MayChoose, decision_of};
 
 use crate::decisions::Choice;
-use crate::frame::Frame;
+use crate::frame::{Frame, Rounds};
 use node_use::{TaskTimes, divisor_of, order_diffs, places_of};
 use round_service::{MessageTimes, first_choices, later_choices, serve_diffs};
 use tick_num::Diff;
 
 /// The numbers of the task at the place.
+#[tactic(auto, using(crate::proofs::Bounded::timed))]
 fn times_of(frame: &Frame, place: u32) -> TaskTimes
     requires { place < length frame.now.tasks }
-    ensures { result ≡ times_at frame.now place }
+    ensures times { result ≡ times_at frame.now place }
+    ensures timed { IsTimed result }
 {
+    frame.kept();
     let task = frame.task(place);
     TaskTimes {
         period: task.period(),
@@ -30,14 +34,17 @@ fn times_of(frame: &Frame, place: u32) -> TaskTimes
     }
 }
 
-/// The numbers of the message at the place, for so many rounds in a hyperperiod of so many ticks.
-fn numbers_of(frame: &Frame, rounds: u32, place: u32) -> MessageTimes
+/// The numbers of the message at the place, for so many rounds.
+#[tactic(auto, using(crate::proofs::Bounded::servable))]
+fn numbers_of(frame: &Frame, rounds: Rounds, place: u32) -> MessageTimes
     requires place { place < length frame.now.messages }
-    ensures { result ≡ numbers_at frame.now rounds place }
+    ensures numbers { result ≡ numbers_at frame.now rounds place }
+    ensures servable { IsServable result }
 {
+    frame.kept();
     let message = frame.message(place);
     MessageTimes {
-        rounds: rounds as u64,
+        rounds: rounds.get() as u64,
         round: frame.round(),
         hyper: frame.ticks(),
         period: message.period(),
@@ -51,26 +58,22 @@ fn pair_alternatives(frame: &Frame, first: u32, second: u32) -> (i64, i64)
     requires second { second < length frame.now.tasks }
     ensures { span result.0 result.1 ≡ places (task_at frame.now first) (task_at frame.now second) }
 {
-    frame.kept();
     let one = times_of(frame, first);
     let two = times_of(frame, second);
     places_of(one, two)
 }
 
 /// The alternatives of a message's first instance.
-fn first_alternatives(frame: &Frame, rounds: u32, message: u32) -> (i64, i64)
-    requires rounds { (1 ≤ rounds) × (rounds ≤ 256) }
-    requires message { message < length frame.now.messages }
+fn first_alternatives(frame: &Frame, rounds: Rounds, message: u32) -> (i64, i64)
+    requires { message < length frame.now.messages }
     ensures { span result.0 result.1 ≡ alternatives_of frame.now rounds (serve message 0) [] }
 {
-    frame.kept();
     let numbers = numbers_of(frame, rounds, message);
     first_choices(numbers)
 }
 
 /// The alternatives of a later instance, after these choices.
-fn later_alternatives(rounds: u32, prefix: &[i64], instance: usize) -> (i64, i64)
-    requires rounds { rounds ≤ 256 }
+fn later_alternatives(rounds: Rounds, prefix: &[i64], instance: usize) -> (i64, i64)
     requires instance { (1 ≤ instance) × (instance ≤ length prefix.now) }
     requires previous { (pos 1 ≤ℤ slice_index_or prefix.now (length prefix.now - 1) (pos 0)) × (slice_index_or prefix.now (length prefix.now - 1) (pos 0) ≤ℤ pos 1000000000000000) }
     requires first { (pos 1 ≤ℤ slice_index_or prefix.now (length prefix.now - instance) (pos 0)) × (slice_index_or prefix.now (length prefix.now - instance) (pos 0) ≤ℤ pos 1000000000000000) }
@@ -79,18 +82,17 @@ fn later_alternatives(rounds: u32, prefix: &[i64], instance: usize) -> (i64, i64
 {
     let previous = prefix[prefix.len() - 1];
     let first = prefix[prefix.len() - instance];
-    later_choices(rounds as u64, previous, first)
+    later_choices(rounds.get() as u64, previous, first)
 }
 
 /// The alternatives of an instance of a message, after the choices for the decisions before it.
 fn serve_alternatives(
     frame: &Frame,
-    rounds: u32,
+    rounds: Rounds,
     message: u32,
     instance: u64,
     prefix: &[i64],
 ) -> (i64, i64)
-    requires rounds { (1 ≤ rounds) × (rounds ≤ 256) }
     requires more { length prefix.now < length (decisions frame.now) }
     requires chosen { Chosen frame.now rounds prefix.now }
     requires decision { serve message instance ≡ slice_index_or (decisions frame.now) (length prefix.now) (order 0 0) }
@@ -100,17 +102,17 @@ fn serve_alternatives(
         return first_alternatives(frame, rounds, message);
     }
     frame.kept();
+    let _some = rounds.get();
     later_alternatives(rounds, prefix, instance as usize)
 }
 
 /// The alternatives of a decision, after the choices for the decisions before it.
 pub(crate) fn alternatives_at(
     frame: &Frame,
-    rounds: u32,
+    rounds: Rounds,
     choice: Choice,
     prefix: &[i64],
 ) -> (i64, i64)
-    requires rounds { (1 ≤ rounds) × (rounds ≤ 256) }
     requires more { length prefix.now < length (decisions frame.now) }
     requires chosen { Chosen frame.now rounds prefix.now }
     requires decision { decision_of choice ≡ slice_index_or (decisions frame.now) (length prefix.now) (order 0 0) }
@@ -125,27 +127,22 @@ pub(crate) fn alternatives_at(
 }
 
 /// The two constraints of the choice `z` for a pair of tasks.
-fn pair_diffs(frame: &Frame, rounds: u32, first: u32, second: u32, z: i64) -> [Diff; 2]
-    requires rounds { rounds ≤ 256 }
+fn pair_diffs(frame: &Frame, rounds: Rounds, first: u32, second: u32, z: i64) -> [Diff; 2]
     requires first { first < length frame.now.tasks }
     requires second { second < length frame.now.tasks }
     requires place { Contains (places (task_at frame.now first) (task_at frame.now second)) z }
     ensures { result ≡ chosen frame.now rounds (order first second) z }
 {
-    frame.kept();
     let one = times_of(frame, first);
     let two = times_of(frame, second);
     let divisor = divisor_of(one, two);
-    let (earlier, later) = (
-        frame.task_var(rounds, first),
-        frame.task_var(rounds, second),
-    );
+    let earlier = frame.task_var(rounds, first);
+    let later = frame.task_var(rounds, second);
     order_diffs(earlier, later, one, two, divisor, z)
 }
 
 /// The two constraints of the choice `g` for an instance of a message.
-fn instance_diffs(frame: &Frame, rounds: u32, message: u32, instance: u64, g: i64) -> [Diff; 2]
-    requires rounds { (1 ≤ rounds) × (rounds ≤ 256) }
+fn instance_diffs(frame: &Frame, rounds: Rounds, message: u32, instance: u64, g: i64) -> [Diff; 2]
     requires message { message < length frame.now.messages }
     requires instance { instance < instance_count frame.now (message_at frame.now message) }
     requires least { pos 1 ≤ℤ g }
@@ -154,7 +151,6 @@ fn instance_diffs(frame: &Frame, rounds: u32, message: u32, instance: u64, g: i6
 {
     let opens = frame.opens_var(rounds, message);
     let closes = frame.closes_var(rounds, message);
-    frame.kept();
     let numbers = numbers_of(frame, rounds, message);
     serve_diffs(opens, closes, numbers, instance, g)
 }
@@ -162,12 +158,11 @@ fn instance_diffs(frame: &Frame, rounds: u32, message: u32, instance: u64, g: i6
 /// The two constraints of a choice for the decision that stands at the place `at`, after the choices for those before it.
 pub(crate) fn diffs_at(
     frame: &Frame,
-    rounds: u32,
+    rounds: Rounds,
     choice: Choice,
     prefix: &[i64],
     at: usize,
 ) -> [Diff; 2]
-    requires rounds { (1 ≤ rounds) × (rounds ≤ 256) }
     requires few { length prefix.now ≤ length (decisions frame.now) }
     requires chosen { Chosen frame.now rounds prefix.now }
     requires at { at < length prefix.now }
@@ -175,6 +170,7 @@ pub(crate) fn diffs_at(
     ensures { result ≡ chosen frame.now rounds (decision_of choice) (slice_index_or prefix.now at (pos 0)) }
 {
     frame.kept();
+    let _some = rounds.get();
     let value = prefix[at];
     match choice {
         Choice::Serve(message, instance) => instance_diffs(frame, rounds, message, instance, value),
@@ -183,8 +179,7 @@ pub(crate) fn diffs_at(
 }
 
 /// The two constraints of a choice for a decision.
-pub(crate) fn diffs_of(frame: &Frame, rounds: u32, choice: Choice, value: i64) -> [Diff; 2]
-    requires rounds { (1 ≤ rounds) × (rounds ≤ 256) }
+pub(crate) fn diffs_of(frame: &Frame, rounds: Rounds, choice: Choice, value: i64) -> [Diff; 2]
     requires decision { (at : ℕ) × (at < length (decisions frame.now)) × (decision_of choice ≡ slice_index_or (decisions frame.now) at (order 0 0)) }
     requires value { MayChoose frame.now rounds (decision_of choice) value }
     ensures { result ≡ chosen frame.now rounds (decision_of choice) value }

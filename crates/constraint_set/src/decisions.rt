@@ -82,7 +82,7 @@ fn add_serves(list: &mut Decisions, message: u32, instances: u64) -> Result<(), 
     Ok(())
 }
 
-/// Adds the instances of the message at the place, in a hyperperiod of so many ticks.
+/// Adds the instances of the message at the place.
 fn add_message(list: &mut Decisions, frame: &Frame, message: u32) -> Result<(), AllocError>
     requires message { message < length frame.now.messages }
     ensures { IfOk result (λ _. list.new ≡ list.old ++ serves frame.now message) }
@@ -139,7 +139,7 @@ fn add_pairs(list: &mut Decisions, frame: &Frame) -> Result<(), AllocError>
     Ok(())
 }
 
-/// The decisions of the mode, whose hyperperiod has so many ticks.
+/// The decisions of the mode.
 pub(crate) fn make_decisions(alloc: Global, frame: &Frame) -> Result<Decisions, AllocError>
     ensures { IfOk result (λ d. d ≡ decisions frame.now) }
 {

@@ -36,6 +36,46 @@ impl Model for Frame {
     ghost invariant = { λ f. IsFramed f.mode f.ticks f.instances f.firsts.items };
 }
 
+/// A number of rounds in a hyperperiod, from 1 to 256.
+#[derive(Clone, Copy, Drop)]
+pub(crate) struct Rounds {
+    count: u32,
+}
+
+impl Model for Rounds {
+    ghost use Rattle.std.specs.Prelude.{ℕ, ◌≤◌};
+
+    ghost Value = { ℕ };
+
+    ghost view = { λ r. r.count };
+
+    ghost invariant = { λ r. (1 ≤ r.count) × (r.count ≤ 256) };
+
+    ghost inverse = { λ n. record { count = n } };
+}
+
+impl Rounds {
+    /// So many rounds.
+    pub(crate) fn new(count: u64) -> Rounds
+        requires some { 1 ≤ count }
+        requires few { count ≤ 256 }
+        ensures { result ≡ count }
+    {
+        Rounds {
+            count: count as u32,
+        }
+    }
+
+    /// The number.
+    pub(crate) fn get(self) -> u32
+        ensures count { result ≡ self }
+        ensures some { 1 ≤ self }
+        ensures few { self ≤ 256 }
+    {
+        self.count
+    }
+}
+
 /// Whether each task is a first one, in file order.
 fn find_firsts(alloc: Global, mode: &FlatMode, graph: &TaskGraph) -> Result<Vec<bool>, AllocError>
     requires few { length mode.now.tasks ≤ 128 }
@@ -145,29 +185,26 @@ impl Frame {
     }
 
     /// The variable of a task's first start.
-    pub(crate) fn task_var(&self, rounds: u32, task: u32) -> u32
-        requires rounds { rounds ≤ 256 }
+    pub(crate) fn task_var(&self, rounds: Rounds, task: u32) -> u32
         requires task { task < length self.now.tasks }
         ensures { result ≡ task_var rounds task }
     {
-        let _few = self.task_count();
-        rounds + task
+        self.kept();
+        rounds.get() + task
     }
 
     /// The variable of the opening of a message's first window.
-    pub(crate) fn opens_var(&self, rounds: u32, message: u32) -> u32
-        requires rounds { rounds ≤ 256 }
+    pub(crate) fn opens_var(&self, rounds: Rounds, message: u32) -> u32
         requires message { message < length self.now.messages }
         ensures opens { result ≡ opens_var self.now rounds message }
         ensures few { result < 512 }
     {
-        let _few = self.message_count();
-        rounds + self.task_count() + 2 * message
+        self.kept();
+        rounds.get() + self.task_count() + 2 * message
     }
 
     /// The variable of its closing.
-    pub(crate) fn closes_var(&self, rounds: u32, message: u32) -> u32
-        requires rounds { rounds ≤ 256 }
+    pub(crate) fn closes_var(&self, rounds: Rounds, message: u32) -> u32
         requires message { message < length self.now.messages }
         ensures { result ≡ closes_var self.now rounds message }
     {

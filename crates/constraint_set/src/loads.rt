@@ -7,6 +7,7 @@ ghost use Rattle.constraint_set.specs.Decided.{AllRoom, FirstOver, decision_of, 
 ghost use Rattle.constraint_set.specs.Loads.{Within, first, is_round, round_of, times, with_one};
 
 use crate::decisions::{Choice, Decisions};
+use crate::frame::Rounds;
 use std::alloc::{AllocError, Global};
 use std::marker::Model;
 
@@ -131,16 +132,14 @@ fn natural_of(value: i64) -> u64
 }
 
 /// The place of the round that a round instance is one of.
-pub(crate) fn place_of_round(value: i64, rounds: u32) -> u64
-    requires { 1 ≤ rounds }
+pub(crate) fn place_of_round(value: i64, rounds: Rounds) -> u64
     ensures { result ≡ (natural value - 1) % rounds }
 {
-    natural_of(value).saturating_sub(1) % rounds as u64
+    natural_of(value).saturating_sub(1) % rounds.get() as u64
 }
 
 /// Whether the choice names the round at the place. That of a pair names none.
-fn names_round(choice: Choice, value: i64, rounds: u32, round: u32) -> bool
-    requires { 1 ≤ rounds }
+fn names_round(choice: Choice, value: i64, rounds: Rounds, round: u32) -> bool
     ensures { result ≡ names_round rounds round (decision_of choice) value }
 {
     match choice {
@@ -150,8 +149,7 @@ fn names_round(choice: Choice, value: i64, rounds: u32, round: u32) -> bool
 }
 
 /// The round, from 1, that the choice names; none for a pair.
-pub(crate) fn round_named(choice: Choice, value: i64, rounds: u32) -> Option<u64>
-    requires { 1 ≤ rounds }
+pub(crate) fn round_named(choice: Choice, value: i64, rounds: Rounds) -> Option<u64>
     ensures round { result ≡ round_of rounds (decision_of choice) value }
     ensures within { Within rounds result }
 {
@@ -162,9 +160,8 @@ pub(crate) fn round_named(choice: Choice, value: i64, rounds: u32) -> Option<u64
 }
 
 /// How many of the choices name the round at the place.
-fn load_of(decisions: &Decisions, prefix: &[i64], rounds: u32, round: u32) -> usize
+fn load_of(decisions: &Decisions, prefix: &[i64], rounds: Rounds, round: u32) -> usize
     requires few { length prefix.now ≤ length decisions.now }
-    requires rounds { 1 ≤ rounds }
     ensures { result ≡ load_of rounds round decisions.now prefix.now }
 {
     let mut total = 0;
@@ -180,15 +177,14 @@ fn load_of(decisions: &Decisions, prefix: &[i64], rounds: u32, round: u32) -> us
 pub(crate) fn first_overfull(
     decisions: &Decisions,
     prefix: &[i64],
-    rounds: u32,
+    rounds: Rounds,
     slots: u32,
 ) -> Option<u64>
     requires few { length prefix.now ≤ length decisions.now }
-    requires rounds { 1 ≤ rounds }
     ensures none { IfNone result (AllRoom slots rounds rounds decisions.now prefix.now) }
     ensures some { IfSome result (FirstOver slots rounds decisions.now prefix.now) }
 {
-    for round in 0..rounds {
+    for round in 0..rounds.get() {
         if load_of(decisions, prefix, rounds, round) > slots as usize {
             return Some(round as u64 + 1);
         }

@@ -17,7 +17,7 @@ use crate::base::make_base;
 use crate::chains::find_chains;
 use crate::choices::{alternatives_at, diffs_at, diffs_of};
 use crate::decisions::{Decisions, make_decisions};
-use crate::frame::Frame;
+use crate::frame::{Frame, Rounds};
 use crate::loads::{first_overfull, round_named};
 use crate::schedule::make_schedule;
 use app_graph::ModeSet;
@@ -32,7 +32,7 @@ pub struct Problem {
     frame: Frame,
     chains: Vec<Diff>,
     decisions: Decisions,
-    rounds: u32,
+    rounds: Rounds,
     base: Vec<Diff>,
 }
 
@@ -60,7 +60,7 @@ impl Problem {
         let chains = find_chains(alloc, &frame, &graph)?;
         let decisions = make_decisions(alloc, &frame)?;
         frame.kept();
-        let rounds = rounds as u32;
+        let rounds = Rounds::new(rounds);
         let base = make_base(alloc, &frame, chains.as_slice(), rounds)?;
         Ok(Problem {
             frame,
@@ -83,7 +83,7 @@ impl Problem {
     {
         let alloc = *self.base.allocator();
         self.frame.kept();
-        let next = rounds as u32;
+        let next = Rounds::new(rounds);
         let base = make_base(alloc, &self.frame, self.chains.as_slice(), next)?;
         self.rounds = next;
         self.base = base;
@@ -98,7 +98,7 @@ impl Problem {
         ensures valid { IsValid self.now.mode }
     {
         self.frame.kept();
-        self.rounds + self.frame.task_count() + 2 * self.frame.message_count()
+        self.rounds.get() + self.frame.task_count() + 2 * self.frame.message_count()
     }
 
     /// The number of rounds in a hyperperiod.
@@ -107,7 +107,7 @@ impl Problem {
         ensures some { 1 ≤ result }
         ensures most { result ≤ most_rounds self.now.mode }
     {
-        self.rounds
+        self.rounds.get()
     }
 
     /// The constraints that hold whatever is chosen, in their order.
@@ -135,7 +135,7 @@ impl Problem {
     pub fn short_of_slots(&self) -> bool
         ensures { IsTrue result ↔ (self.now.rounds * self.now.mode.slots < instances self.now.mode) }
     {
-        (self.rounds as u64 * self.frame.slots() as u64) < self.frame.instances()
+        (self.rounds.get() as u64 * self.frame.slots() as u64) < self.frame.instances()
     }
 
     /// The least and the greatest alternative of the next decision after these choices;

@@ -10,7 +10,7 @@ ghost use Rattle.sched_model.specs.PrintedSchedule.{names, schedule_of, table_of
 ghost use Rattle.sched_model.specs.ModeLimits.{IsLimited};
 ghost use Rattle.sched_model.specs.ValidMode.{IsValid};
 
-use crate::frame::Frame;
+use crate::frame::{Frame, Rounds};
 use crate::loads::place_of_round;
 use app_graph::ListOf;
 use sched_model::Schedule;
@@ -53,8 +53,7 @@ fn windows_from(
 }
 
 /// Whether one of so many choices from the place on names the round at its place.
-fn is_named(choices: &[i64], first: usize, count: u64, rounds: u32, round: u32) -> bool
-    requires some { 1 ≤ rounds }
+fn is_named(choices: &[i64], first: usize, count: u64, rounds: Rounds, round: u32) -> bool
     requires within { first + count ≤ length choices.now }
     ensures { result ≡ list_any (λ k. nat_eq ((natural (slice_index_or choices.now (first + k) (pos 0)) - 1) % rounds) round) (below count) }
 {
@@ -71,13 +70,12 @@ fn is_named(choices: &[i64], first: usize, count: u64, rounds: u32, round: u32) 
 fn add_named(
     numbers: &mut Vec<u32>,
     frame: &Frame,
-    rounds: u32,
+    rounds: Rounds,
     choices: &[i64],
     message: u32,
     first: usize,
     round: u32,
 ) -> Result<usize, AllocError>
-    requires some { 1 ≤ rounds }
     requires message { message < length frame.now.messages }
     requires first { first ≡ place frame.now message 0 }
     requires full { length choices.now ≡ length (decisions frame.now) }
@@ -96,11 +94,10 @@ fn add_named(
 fn make_table(
     alloc: Global,
     frame: &Frame,
-    rounds: u32,
+    rounds: Rounds,
     choices: &[i64],
     round: u32,
 ) -> Result<ListOf<u32>, AllocError>
-    requires some { 1 ≤ rounds }
     requires full { length choices.now ≡ length (decisions frame.now) }
     ensures { IfOk result (λ table. table ≡ table_of frame.now rounds choices.now round) }
 {
@@ -116,36 +113,35 @@ fn make_table(
 fn make_tables(
     alloc: Global,
     frame: &Frame,
-    rounds: u32,
+    rounds: Rounds,
     choices: &[i64],
 ) -> Result<Vec<ListOf<u32>>, AllocError>
-    requires some { 1 ≤ rounds }
     requires full { length choices.now ≡ length (decisions frame.now) }
     ensures { IfOk result (λ v. v.items ≡ map (table_of frame.now rounds choices.now) (below rounds)) }
 {
     let mut tables = Vec::new(alloc);
-    for round in 0..rounds {
+    for round in 0..rounds.get() {
         tables.push(make_table(alloc, frame, rounds, choices, round)?)?;
     }
     Ok(tables)
 }
 
-/// The schedule of the mode, whose hyperperiod has so many ticks.
+/// The schedule of a full list of choices and a value for each variable.
 pub(crate) fn make_schedule(
     alloc: Global,
     frame: &Frame,
-    rounds: u32,
+    rounds: Rounds,
     choices: &[i64],
     values: &[Time],
 ) -> Result<Schedule, AllocError>
-    requires some { 1 ≤ rounds }
     requires full { length choices.now ≡ length (decisions frame.now) }
     requires values { length values.now ≡ vars frame.now rounds }
     ensures { IfOk result (λ s. s ≡ schedule_of frame.now rounds choices.now (listed values.now)) }
 {
-    let tasks = rounds as usize;
+    let count = rounds.get();
+    let tasks = count as usize;
     let messages = tasks + frame.task_count() as usize;
-    let starts = values_from(alloc, values, 0, rounds)?;
+    let starts = values_from(alloc, values, 0, count)?;
     let offsets = values_from(alloc, values, tasks, frame.task_count())?;
     let windows = windows_from(alloc, values, messages, frame.message_count())?;
     let tables = make_tables(alloc, frame, rounds, choices)?;

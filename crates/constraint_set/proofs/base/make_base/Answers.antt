@@ -4,8 +4,8 @@ use Rattle.constraint_set.proofs.BaseLists.{five_parts}
 use Rattle.constraint_set.proofs.ChainsBehind.{chains_behind, chains_within}
 use Rattle.constraint_set.proofs.base.make_base.Goals as goal
 
-pub add_chains-requires-clause-tasks : goal.add_chains-requires-clause-tasks
-add_chains-requires-clause-tasks c = chains_within c.args.frame.now c.args.chains.now c.kept.ensures.limits.tasks c.requires.chains
+pub add_chains-requires : goal.add_chains-requires
+add_chains-requires c = chains_within c.args.frame.now c.args.chains.now c.kept.ensures.limits.tasks c.requires.chains
 
 pub returns : goal.returns
 returns c =
