@@ -45,7 +45,8 @@ fn add_next_round(list: &mut Vec<Diff>, frame: &Frame, j: u32) -> Result<(), All
 
 /// Adds the constraints of each two rounds that follow one another.
 fn add_rounds(list: &mut Vec<Diff>, frame: &Frame, rounds: Rounds) -> Result<(), AllocError>
-    ensures { IfOk result (λ _. list.new.items ≡ list.old.items ++ flat_map (next_round frame.now) (below (rounds - 1))) }
+    ensures { IfOk result (λ _. list.new.items
+        ≡ list.old.items ++ flat_map (next_round frame.now) (below (rounds - 1))) }
 {
     for j in 0..rounds.get() - 1 {
         add_next_round(list, frame, j)?;
@@ -88,7 +89,8 @@ fn add_task(
 
 /// Adds the constraints of the tasks' first starts.
 fn add_tasks(list: &mut Vec<Diff>, frame: &Frame, rounds: Rounds) -> Result<(), AllocError>
-    ensures { IfOk result (λ _. list.new.items ≡ list.old.items ++ flat_map (of_task frame.now rounds) (below (length frame.now.tasks))) }
+    ensures { IfOk result (λ _. list.new.items
+        ≡ list.old.items ++ flat_map (of_task frame.now rounds) (below (length frame.now.tasks))) }
 {
     for task in 0..frame.task_count() {
         add_task(list, frame, rounds, task)?;
@@ -106,7 +108,9 @@ fn add_producer(
 ) -> Result<(), AllocError>
     requires message { message < length frame.now.messages }
     requires producer { producer < length frame.now.tasks }
-    ensures { IfOk result (λ _. list.new.items ≡ list.old.items ++ of_producer frame.now rounds message producer) }
+
+    ensures { IfOk result (λ _. list.new.items
+        ≡ list.old.items ++ of_producer frame.now rounds message producer) }
 {
     let wcet = frame.task(producer).wcet();
     let period = frame.message(message).period();
@@ -127,7 +131,9 @@ fn add_consumer(
 ) -> Result<(), AllocError>
     requires message { message < length frame.now.messages }
     requires consumer { consumer < length frame.now.tasks }
-    ensures { IfOk result (λ _. list.new.items ≡ list.old.items ++ of_consumer frame.now rounds message consumer) }
+
+    ensures { IfOk result (λ _. list.new.items
+        ≡ list.old.items ++ of_consumer frame.now rounds message consumer) }
 {
     let period = frame.message(message).period();
     let start = frame.task_var(rounds, consumer);
@@ -147,7 +153,9 @@ fn add_producers(
 ) -> Result<(), AllocError>
     requires message { message < length frame.now.messages }
     requires producers { All (λ a. a < length frame.now.tasks) producers.now }
-    ensures { IfOk result (λ _. list.new.items ≡ list.old.items ++ flat_map (of_producer frame.now rounds message) producers.now) }
+
+    ensures { IfOk result (λ _. list.new.items
+        ≡ list.old.items ++ flat_map (of_producer frame.now rounds message) producers.now) }
 {
     for producer in producers {
         add_producer(list, frame, rounds, message, *producer)?;
@@ -165,7 +173,9 @@ fn add_consumers(
 ) -> Result<(), AllocError>
     requires message { message < length frame.now.messages }
     requires consumers { All (λ b. b < length frame.now.tasks) consumers.now }
-    ensures { IfOk result (λ _. list.new.items ≡ list.old.items ++ flat_map (of_consumer frame.now rounds message) consumers.now) }
+
+    ensures { IfOk result (λ _. list.new.items
+        ≡ list.old.items ++ flat_map (of_consumer frame.now rounds message) consumers.now) }
 {
     for consumer in consumers {
         add_consumer(list, frame, rounds, message, *consumer)?;
@@ -181,7 +191,9 @@ fn add_message(
     message: u32,
 ) -> Result<(), AllocError>
     requires message { message < length frame.now.messages }
-    ensures { IfOk result (λ _. list.new.items ≡ list.old.items ++ of_message frame.now rounds message) }
+
+    ensures { IfOk result (λ _. list.new.items
+        ≡ list.old.items ++ of_message frame.now rounds message) }
 {
     let ends = frame.message(message);
     let lasts = at_least(
@@ -197,7 +209,8 @@ fn add_message(
 
 /// Adds the constraints of the messages.
 fn add_messages(list: &mut Vec<Diff>, frame: &Frame, rounds: Rounds) -> Result<(), AllocError>
-    ensures { IfOk result (λ _. list.new.items ≡ list.old.items ++ flat_map (of_message frame.now rounds) (below (length frame.now.messages))) }
+    ensures { IfOk result (λ _. list.new.items ≡ list.old.items
+        ++ flat_map (of_message frame.now rounds) (below (length frame.now.messages))) }
 {
     for message in 0..frame.message_count() {
         add_message(list, frame, rounds, message)?;
@@ -209,6 +222,7 @@ fn add_messages(list: &mut Vec<Diff>, frame: &Frame, rounds: Rounds) -> Result<(
 fn add_chain(list: &mut Vec<Diff>, rounds: Rounds, chain: Diff) -> Result<(), AllocError>
     requires end { chain.x < 128 }
     requires start { chain.y < 128 }
+
     ensures { IfOk result (λ _. list.new.items ≡ list.old.items ++ behind rounds chain ∷ []) }
 {
     add_one(

@@ -33,6 +33,7 @@ pub(crate) fn at_least(x: u32, y: u32, least: u64) -> Diff
 pub(crate) fn at_most_less(x: u32, y: u32, most: u64, less: u64) -> Diff
     requires most { most ≤ 2000000000000 }
     requires less { less ≤ 2000000000000 }
+
     ensures { result ≡ diff x y (pos most -ℤ pos less) }
 {
     Diff {

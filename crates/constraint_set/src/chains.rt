@@ -19,7 +19,9 @@ use tick_num::Diff;
 /// The tasks that reach each task, in file order.
 fn all_sources(alloc: Global, frame: &Frame, graph: &TaskGraph) -> Result<Vec<TaskSet>, AllocError>
     requires graph { graph.now ≡ graph_of frame.now }
-    ensures { IfOk result (λ v. v.items ≡ map (sources_of frame.now) (below (length frame.now.tasks))) }
+
+    ensures { IfOk result (λ v. v.items ≡ map (sources_of frame.now)
+        (below (length frame.now.tasks))) }
 {
     let mut all = Vec::new(alloc);
     for target in 0..frame.task_count() {
@@ -41,7 +43,9 @@ fn add_chain(
     requires start { start < length frame.now.tasks }
     requires end { end < length frame.now.tasks }
     requires sources { sources ≡ sources_of frame.now end }
-    ensures { IfOk result (λ _. chains.new.items ≡ chains.old.items ++ of_chain frame.now 0 start end) }
+
+    ensures { IfOk result (λ _. chains.new.items
+        ≡ chains.old.items ++ of_chain frame.now 0 start end) }
 {
     frame.kept();
     if !graph.is_last(end as usize) {
@@ -67,7 +71,9 @@ fn add_chains_of(
     requires graph { graph.now ≡ graph_of frame.now }
     requires start { start < length frame.now.tasks }
     requires sources { sources.now ≡ map (sources_of frame.now) (below (length frame.now.tasks)) }
-    ensures { IfOk result (λ _. chains.new.items ≡ chains.old.items ++ flat_map (of_chain frame.now 0 start) (below (length frame.now.tasks))) }
+
+    ensures { IfOk result (λ _. chains.new.items ≡ chains.old.items
+        ++ flat_map (of_chain frame.now 0 start) (below (length frame.now.tasks))) }
 {
     for end in 0..frame.task_count() {
         add_chain(chains, frame, graph, start, end, sources[end as usize])?;
@@ -86,6 +92,7 @@ fn add_first(
     requires graph { graph.now ≡ graph_of frame.now }
     requires start { start < length frame.now.tasks }
     requires sources { sources.now ≡ map (sources_of frame.now) (below (length frame.now.tasks)) }
+
     ensures { IfOk result (λ _. chains.new.items ≡ chains.old.items ++ of_first frame.now 0 start) }
 {
     if frame.is_first(start) {

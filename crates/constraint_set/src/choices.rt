@@ -22,6 +22,7 @@ use tick_num::Diff;
 #[tactic(auto, using(crate::proofs::Bounded::timed))]
 fn times_of(frame: &Frame, place: u32) -> TaskTimes
     requires { place < length frame.now.tasks }
+
     ensures times { result ≡ times_at frame.now place }
     ensures timed { IsTimed result }
 {
@@ -38,6 +39,7 @@ fn times_of(frame: &Frame, place: u32) -> TaskTimes
 #[tactic(auto, using(crate::proofs::Bounded::servable))]
 fn numbers_of(frame: &Frame, rounds: Rounds, place: u32) -> MessageTimes
     requires place { place < length frame.now.messages }
+
     ensures numbers { result ≡ numbers_at frame.now rounds place }
     ensures servable { IsServable result }
 {
@@ -56,6 +58,7 @@ fn numbers_of(frame: &Frame, rounds: Rounds, place: u32) -> MessageTimes
 fn pair_alternatives(frame: &Frame, first: u32, second: u32) -> (i64, i64)
     requires first { first < length frame.now.tasks }
     requires second { second < length frame.now.tasks }
+
     ensures { span result.0 result.1 ≡ places (task_at frame.now first) (task_at frame.now second) }
 {
     let one = times_of(frame, first);
@@ -75,10 +78,15 @@ fn first_alternatives(frame: &Frame, rounds: Rounds, message: u32) -> (i64, i64)
 /// The alternatives of a later instance, after these choices.
 fn later_alternatives(rounds: Rounds, prefix: &[i64], instance: usize) -> (i64, i64)
     requires instance { (1 ≤ instance) × (instance ≤ length prefix.now) }
-    requires previous { (pos 1 ≤ℤ slice_index_or prefix.now (length prefix.now - 1) (pos 0)) × (slice_index_or prefix.now (length prefix.now - 1) (pos 0) ≤ℤ pos 1000000000000000) }
-    requires first { (pos 1 ≤ℤ slice_index_or prefix.now (length prefix.now - instance) (pos 0)) × (slice_index_or prefix.now (length prefix.now - instance) (pos 0) ≤ℤ pos 1000000000000000) }
+    requires previous { (pos 1 ≤ℤ slice_index_or prefix.now (length prefix.now - 1) (pos 0))
+        × (slice_index_or prefix.now (length prefix.now - 1) (pos 0) ≤ℤ pos 1000000000000000) }
+    requires first { (pos 1 ≤ℤ slice_index_or prefix.now (length prefix.now - instance) (pos 0))
+        × (slice_index_or prefix.now (length prefix.now - instance) (pos 0)
+        ≤ℤ pos 1000000000000000) }
+
     ensures low { result.0 ≡ slice_index_or prefix.now (length prefix.now - 1) (pos 0) +ℤ pos 1 }
-    ensures high { result.1 ≡ slice_index_or prefix.now (length prefix.now - instance) (pos 0) +ℤ pos rounds -ℤ pos 1 }
+    ensures high { result.1 ≡ slice_index_or prefix.now (length prefix.now - instance) (pos 0)
+        +ℤ pos rounds -ℤ pos 1 }
 {
     let previous = prefix[prefix.len() - 1];
     let first = prefix[prefix.len() - instance];
@@ -95,8 +103,11 @@ fn serve_alternatives(
 ) -> (i64, i64)
     requires more { length prefix.now < length (decisions frame.now) }
     requires chosen { Chosen frame.now rounds prefix.now }
-    requires decision { serve message instance ≡ slice_index_or (decisions frame.now) (length prefix.now) (order 0 0) }
-    ensures { span result.0 result.1 ≡ alternatives_of frame.now rounds (serve message instance) prefix.now }
+    requires decision { serve message instance
+        ≡ slice_index_or (decisions frame.now) (length prefix.now) (order 0 0) }
+
+    ensures { span result.0 result.1 ≡ alternatives_of frame.now rounds
+        (serve message instance) prefix.now }
 {
     if instance == 0 {
         return first_alternatives(frame, rounds, message);
@@ -115,8 +126,11 @@ pub(crate) fn alternatives_at(
 ) -> (i64, i64)
     requires more { length prefix.now < length (decisions frame.now) }
     requires chosen { Chosen frame.now rounds prefix.now }
-    requires decision { decision_of choice ≡ slice_index_or (decisions frame.now) (length prefix.now) (order 0 0) }
-    ensures { span result.0 result.1 ≡ alternatives_of frame.now rounds (decision_of choice) prefix.now }
+    requires decision { decision_of choice
+        ≡ slice_index_or (decisions frame.now) (length prefix.now) (order 0 0) }
+
+    ensures { span result.0 result.1 ≡ alternatives_of frame.now rounds
+        (decision_of choice) prefix.now }
 {
     match choice {
         Choice::Serve(message, instance) => serve_alternatives(
@@ -131,6 +145,7 @@ fn pair_diffs(frame: &Frame, rounds: Rounds, first: u32, second: u32, z: i64) ->
     requires first { first < length frame.now.tasks }
     requires second { second < length frame.now.tasks }
     requires place { Contains (places (task_at frame.now first) (task_at frame.now second)) z }
+
     ensures { result ≡ chosen frame.now rounds (order first second) z }
 {
     let one = times_of(frame, first);
@@ -147,6 +162,7 @@ fn instance_diffs(frame: &Frame, rounds: Rounds, message: u32, instance: u64, g:
     requires instance { instance < instance_count frame.now (message_at frame.now message) }
     requires least { pos 1 ≤ℤ g }
     requires most { g ≤ℤ pos (most_choice (numbers_at frame.now rounds message)) }
+
     ensures { result ≡ chosen frame.now rounds (serve message instance) g }
 {
     let opens = frame.opens_var(rounds, message);
@@ -167,7 +183,9 @@ pub(crate) fn diffs_at(
     requires chosen { Chosen frame.now rounds prefix.now }
     requires at { at < length prefix.now }
     requires decision { decision_of choice ≡ slice_index_or (decisions frame.now) at (order 0 0) }
-    ensures { result ≡ chosen frame.now rounds (decision_of choice) (slice_index_or prefix.now at (pos 0)) }
+
+    ensures { result ≡ chosen frame.now rounds (decision_of choice)
+        (slice_index_or prefix.now at (pos 0)) }
 {
     frame.kept();
     let _some = rounds.get();
@@ -180,8 +198,10 @@ pub(crate) fn diffs_at(
 
 /// The two constraints of a choice for a decision.
 pub(crate) fn diffs_of(frame: &Frame, rounds: Rounds, choice: Choice, value: i64) -> [Diff; 2]
-    requires decision { (at : ℕ) × (at < length (decisions frame.now)) × (decision_of choice ≡ slice_index_or (decisions frame.now) at (order 0 0)) }
+    requires decision { (at : ℕ) × (at < length (decisions frame.now))
+        × (decision_of choice ≡ slice_index_or (decisions frame.now) at (order 0 0)) }
     requires value { MayChoose frame.now rounds (decision_of choice) value }
+
     ensures { result ≡ chosen frame.now rounds (decision_of choice) value }
 {
     match choice {

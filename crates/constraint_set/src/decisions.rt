@@ -94,7 +94,8 @@ fn add_message(list: &mut Decisions, frame: &Frame, message: u32) -> Result<(), 
 
 /// Adds the instances of the messages.
 fn add_messages(list: &mut Decisions, frame: &Frame) -> Result<(), AllocError>
-    ensures { IfOk result (λ _. list.new ≡ list.old ++ flat_map (serves frame.now) (below (length frame.now.messages))) }
+    ensures { IfOk result (λ _. list.new
+        ≡ list.old ++ flat_map (serves frame.now) (below (length frame.now.messages))) }
 {
     for message in 0..frame.message_count() {
         add_message(list, frame, message)?;
@@ -106,6 +107,7 @@ fn add_messages(list: &mut Decisions, frame: &Frame) -> Result<(), AllocError>
 fn add_pair(list: &mut Decisions, frame: &Frame, first: u32, second: u32) -> Result<(), AllocError>
     requires first { first < length frame.now.tasks }
     requires second { second < length frame.now.tasks }
+
     ensures { IfOk result (λ _. list.new ≡ list.old ++ ordered frame.now first second) }
 {
     if first >= second {
@@ -131,7 +133,8 @@ fn add_pairs_of(list: &mut Decisions, frame: &Frame, first: u32) -> Result<(), A
 
 /// Adds the pairs of tasks.
 fn add_pairs(list: &mut Decisions, frame: &Frame) -> Result<(), AllocError>
-    ensures { IfOk result (λ _. list.new ≡ list.old ++ flat_map (orders frame.now) (below (length frame.now.tasks))) }
+    ensures { IfOk result (λ _. list.new
+        ≡ list.old ++ flat_map (orders frame.now) (below (length frame.now.tasks))) }
 {
     for first in 0..frame.task_count() {
         add_pairs_of(list, frame, first)?;

@@ -99,7 +99,8 @@ fn make_task(place: usize, app: &App, task: &Task) -> FlatTask
 
 /// Adds the tasks of the application at the place.
 fn add_tasks(tasks: &mut Vec<FlatTask>, place: usize, app: &App) -> Result<(), AllocError>
-    ensures { IfOk result (λ _. tasks.new.items ≡ tasks.old.items ++ map (task_in place app.now) app.now.tasks) }
+    ensures { IfOk result (λ _. tasks.new.items
+        ≡ tasks.old.items ++ map (task_in place app.now) app.now.tasks) }
 {
     for task in app.tasks.as_slice() {
         tasks.push(make_task(place, app, task))?;
@@ -169,7 +170,9 @@ fn add_messages(
     app: &App,
 ) -> Result<(), AllocError>
     requires { length tasks.now < 2 ^ 31 }
-    ensures { IfOk result (λ _. messages.new.items ≡ messages.old.items ++ map (message_in tasks.now app.now) app.now.messages) }
+
+    ensures { IfOk result (λ _. messages.new.items
+        ≡ messages.old.items ++ map (message_in tasks.now app.now) app.now.messages) }
 {
     for message in app.messages.as_slice() {
         messages.push(make_message(alloc, tasks, app, message)?)?;
@@ -184,7 +187,9 @@ fn make_messages(
     apps: &[App],
 ) -> Result<Vec<FlatMessage>, AllocError>
     requires { length tasks.now < 2 ^ 31 }
-    ensures { IfOk result (λ v. v.items ≡ flat_map (λ a. map (message_in tasks.now a) a.messages) apps.now) }
+
+    ensures { IfOk result (λ v. v.items ≡ flat_map
+        (λ a. map (message_in tasks.now a) a.messages) apps.now) }
 {
     let mut messages = Vec::new(alloc);
     for app in apps {
@@ -227,6 +232,7 @@ fn make_mode(
 pub(crate) fn flatten(alloc: Global, set: &ModeSet, mode: u32) -> Result<FlatMode, AllocError>
     requires mode { mode < length set.now.modes }
     requires tasks { length (plain_at set.now mode).tasks < 2 ^ 31 }
+
     ensures { IfOk result (λ v. v ≡ plain_at set.now mode) }
 {
     let apps = apps_of(set, mode);

@@ -59,6 +59,7 @@ impl Rounds {
     pub(crate) fn new(count: u64) -> Rounds
         requires some { 1 ≤ count }
         requires few { count ≤ 256 }
+
         ensures { result ≡ count }
     {
         Rounds {
@@ -80,6 +81,7 @@ impl Rounds {
 fn find_firsts(alloc: Global, mode: &FlatMode, graph: &TaskGraph) -> Result<Vec<bool>, AllocError>
     requires few { length mode.now.tasks ≤ 128 }
     requires graph { graph.now ≡ graph_of mode.now }
+
     ensures { IfOk result (λ v. v.items ≡ map (first mode.now) (below (length mode.now.tasks))) }
 {
     let mut firsts = Vec::new(alloc);
@@ -93,6 +95,7 @@ fn find_firsts(alloc: Global, mode: &FlatMode, graph: &TaskGraph) -> Result<Vec<
 fn ticks_of(set: &ModeSet, mode: u32) -> u64
     requires rules { KeepsRules set.now }
     requires mode { mode < length set.now.modes }
+
     ensures { result ≡ hyper (plain_at set.now mode) }
 {
     hyper(set, mode).unsigned_abs()
@@ -109,6 +112,7 @@ impl Frame {
         requires rules { KeepsRules set.now }
         requires mode { mode < length set.now.modes }
         requires graph { graph.now ≡ graph_of (plain_at set.now mode) }
+
         ensures { IfOk result (λ f. f ≡ plain_at set.now mode) }
     {
         let flat = flatten(alloc, set, mode)?;
@@ -196,6 +200,7 @@ impl Frame {
     /// The variable of the opening of a message's first window.
     pub(crate) fn opens_var(&self, rounds: Rounds, message: u32) -> u32
         requires message { message < length self.now.messages }
+
         ensures opens { result ≡ opens_var self.now rounds message }
         ensures few { result < 512 }
     {
@@ -224,6 +229,7 @@ impl Frame {
     #[tactic(auto, using(crate::proofs::BaseLists::task_times))]
     pub(crate) fn task(&self, place: u32) -> &FlatTask
         requires { place < length self.now.tasks }
+
         ensures task { result.now ≡ task_at self.now place }
         ensures wcet { result.now.wcet ≤ 1000000000 }
         ensures period { result.now.period ≤ 1000000000 }
@@ -236,6 +242,7 @@ impl Frame {
     #[tactic(auto, using(crate::proofs::BaseLists::message_times, crate::proofs::BaseLists::message_some))]
     pub(crate) fn message(&self, place: u32) -> &FlatMessage
         requires { place < length self.now.messages }
+
         ensures message { result.now ≡ message_at self.now place }
         ensures period { (1 ≤ result.now.period) × (result.now.period ≤ 1000000000) }
         ensures from { All (λ a. a < length self.now.tasks) result.now.from }

@@ -33,8 +33,10 @@ impl Model for Loads {
 fn add_one(counts: &mut Vec<u64>, round: Option<u64>)
     requires within { Within (length counts.old.items) round }
     requires room { IfSome round (λ j. slice_index_or counts.old.items (j - 1) 0 + 1 < 2 ^ 64) }
+
     ensures same { length counts.new.items ≡ length counts.old.items }
-    ensures counts { (q : ℕ) → q < length counts.old.items → slice_index_or counts.new.items q 0 ≡ slice_index_or counts.old.items q 0 + cond (is_round (q + 1) round) 1 0 }
+    ensures counts { (q : ℕ) → q < length counts.old.items → slice_index_or counts.new.items q 0
+        ≡ slice_index_or counts.old.items q 0 + cond (is_round (q + 1) round) 1 0 }
 {
     if let Some(round) = round {
         counts[round as usize - 1] += 1;
@@ -45,8 +47,11 @@ fn add_one(counts: &mut Vec<u64>, round: Option<u64>)
 fn take_one(counts: &mut Vec<u64>, round: Option<u64>)
     requires within { Within (length counts.old.items) round }
     requires some { IfSome round (λ j. 1 ≤ slice_index_or counts.old.items (j - 1) 0) }
+
     ensures same { length counts.new.items ≡ length counts.old.items }
-    ensures counts { (q : ℕ) → q < length counts.old.items → slice_index_or counts.new.items q 0 + cond (is_round (q + 1) round) 1 0 ≡ slice_index_or counts.old.items q 0 }
+    ensures counts { (q : ℕ) → q < length counts.old.items
+        → slice_index_or counts.new.items q 0 + cond (is_round (q + 1) round) 1 0
+        ≡ slice_index_or counts.old.items q 0 }
 {
     if let Some(round) = round {
         counts[round as usize - 1] -= 1;
@@ -74,6 +79,7 @@ impl Loads {
     pub fn count(&mut self, round: Option<u64>)
         requires within { Within self.old.rounds round }
         requires room { length self.old.named < self.old.room }
+
         ensures { self.new ≡ with_one self.old round }
     {
         self.named.push_reserved(round);
@@ -114,6 +120,7 @@ impl Loads {
     pub fn load(&self, round: u64) -> u64
         requires some { 1 ≤ round }
         requires within { round ≤ self.now.rounds }
+
         ensures { result ≡ times round self.now.named }
     {
         self.counts[round as usize - 1]
@@ -181,6 +188,7 @@ pub(crate) fn first_overfull(
     slots: u32,
 ) -> Option<u64>
     requires few { length prefix.now ≤ length decisions.now }
+
     ensures none { IfNone result (AllRoom slots rounds rounds decisions.now prefix.now) }
     ensures some { IfSome result (FirstOver slots rounds decisions.now prefix.now) }
 {

@@ -53,6 +53,7 @@ impl Problem {
         requires mode { mode < length set.now.modes }
         requires some { 1 ≤ rounds }
         requires most { rounds ≤ most_rounds (plain_at set.now mode) }
+
         ensures { IfOk result (λ p. p ≡ record { mode = plain_at set.now mode; rounds = rounds }) }
     {
         let graph = TaskGraph::of(set, mode);
@@ -133,7 +134,8 @@ impl Problem {
 
     /// Whether the rounds have too few slots for the instances of all messages.
     pub fn short_of_slots(&self) -> bool
-        ensures { IsTrue result ↔ (self.now.rounds * self.now.mode.slots < instances self.now.mode) }
+        ensures { IsTrue result
+            ↔ (self.now.rounds * self.now.mode.slots < instances self.now.mode) }
     {
         (self.rounds.get() as u64 * self.frame.slots() as u64) < self.frame.instances()
     }
@@ -143,6 +145,7 @@ impl Problem {
     pub fn alternatives(&self, prefix: &[i64]) -> (i64, i64)
         requires more { length prefix.now < length (decisions self.now.mode) }
         requires chosen { Chosen self.now.mode self.now.rounds prefix.now }
+
         ensures { span result.0 result.1 ≡ alternatives self.now.mode self.now.rounds prefix.now }
     {
         let choice = self.decisions.at(prefix.len());
@@ -154,7 +157,10 @@ impl Problem {
         requires some { 0 < length prefix.now }
         requires few { length prefix.now ≤ length (decisions self.now.mode) }
         requires chosen { Chosen self.now.mode self.now.rounds prefix.now }
-        ensures { result ≡ chosen self.now.mode self.now.rounds (slice_index_or (decisions self.now.mode) (length prefix.now - 1) (order 0 0)) (slice_index_or prefix.now (length prefix.now - 1) (pos 0)) }
+
+        ensures { result ≡ chosen self.now.mode self.now.rounds
+            (slice_index_or (decisions self.now.mode) (length prefix.now - 1) (order 0 0))
+            (slice_index_or prefix.now (length prefix.now - 1) (pos 0)) }
     {
         let last = prefix.len() - 1;
         let choice = self.decisions.at(last);
@@ -164,8 +170,11 @@ impl Problem {
     /// The two constraints that the choice `value` adds for the decision at the place `at`, whichever the others are.
     pub fn chosen_diffs(&self, at: usize, value: i64) -> [Diff; 2]
         requires at { at < length (decisions self.now.mode) }
-        requires value { MayChoose self.now.mode self.now.rounds (slice_index_or (decisions self.now.mode) at (order 0 0)) value }
-        ensures { result ≡ chosen self.now.mode self.now.rounds (slice_index_or (decisions self.now.mode) at (order 0 0)) value }
+        requires value { MayChoose self.now.mode self.now.rounds
+            (slice_index_or (decisions self.now.mode) at (order 0 0)) value }
+
+        ensures { result ≡ chosen self.now.mode self.now.rounds
+            (slice_index_or (decisions self.now.mode) at (order 0 0)) value }
     {
         let choice = self.decisions.at(at);
         diffs_of(&self.frame, self.rounds, choice, value)
@@ -174,8 +183,11 @@ impl Problem {
     /// The first round, from 1, that these choices name more often than it has slots; None exactly where there is none.
     pub fn overfull(&self, prefix: &[i64]) -> Option<u64>
         requires { length prefix.now ≤ length (decisions self.now.mode) }
-        ensures none { IfNone result (AllRoom self.now.mode.slots self.now.rounds self.now.rounds (decisions self.now.mode) prefix.now) }
-        ensures some { IfSome result (FirstOver self.now.mode.slots self.now.rounds (decisions self.now.mode) prefix.now) }
+
+        ensures none { IfNone result (AllRoom self.now.mode.slots self.now.rounds self.now.rounds
+            (decisions self.now.mode) prefix.now) }
+        ensures some { IfSome result (FirstOver self.now.mode.slots self.now.rounds
+            (decisions self.now.mode) prefix.now) }
     {
         first_overfull(&self.decisions, prefix, self.rounds, self.frame.slots())
     }
@@ -185,7 +197,9 @@ impl Problem {
     pub fn to_schedule(&self, choices: &[i64], values: &[Time]) -> Result<Schedule, AllocError>
         requires full { length choices.now ≡ length (decisions self.now.mode) }
         requires values { length values.now ≡ vars self.now.mode self.now.rounds }
-        ensures { IfOk result (λ s. s ≡ schedule_of self.now.mode self.now.rounds choices.now (listed values.now)) }
+
+        ensures { IfOk result (λ s. s ≡ schedule_of self.now.mode self.now.rounds choices.now
+            (listed values.now)) }
     {
         let alloc = *self.base.allocator();
         make_schedule(alloc, &self.frame, self.rounds, choices, values)
@@ -194,7 +208,9 @@ impl Problem {
     /// The round, from 1, that this choice for the decision at the place `at` names; none for a pair of tasks.
     pub fn round_of(&self, at: usize, value: i64) -> Option<u64>
         requires { at < length (decisions self.now.mode) }
-        ensures round { result ≡ round_of self.now.rounds (slice_index_or (decisions self.now.mode) at (order 0 0)) value }
+
+        ensures round { result ≡ round_of self.now.rounds
+            (slice_index_or (decisions self.now.mode) at (order 0 0)) value }
         ensures within { Within self.now.rounds result }
     {
         round_named(self.decisions.at(at), value, self.rounds)

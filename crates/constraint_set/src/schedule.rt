@@ -42,7 +42,10 @@ fn windows_from(
     count: u32,
 ) -> Result<Vec<(Time, Time)>, AllocError>
     requires { from + 2 * count ≤ length values.now }
-    ensures { IfOk result (λ v. v.items ≡ map (λ i. (listed values.now (from + 2 * i), listed values.now (from + 2 * i + 1))) (below count)) }
+
+    ensures { IfOk result (λ v. v.items ≡ map
+        (λ i. (listed values.now (from + 2 * i), listed values.now (from + 2 * i + 1)))
+        (below count)) }
 {
     let mut windows = Vec::new(alloc);
     for i in 0..count {
@@ -55,7 +58,10 @@ fn windows_from(
 /// Whether one of so many choices from the place on names the round at its place.
 fn is_named(choices: &[i64], first: usize, count: u64, rounds: Rounds, round: u32) -> bool
     requires within { first + count ≤ length choices.now }
-    ensures { result ≡ list_any (λ k. nat_eq ((natural (slice_index_or choices.now (first + k) (pos 0)) - 1) % rounds) round) (below count) }
+
+    ensures { result ≡ list_any
+        (λ k. nat_eq ((natural (slice_index_or choices.now (first + k) (pos 0)) - 1) % rounds) round)
+        (below count) }
 {
     for k in 0..count {
         if place_of_round(choices[first + k as usize], rounds) == round as u64 {
@@ -79,8 +85,12 @@ fn add_named(
     requires message { message < length frame.now.messages }
     requires first { first ≡ place frame.now message 0 }
     requires full { length choices.now ≡ length (decisions frame.now) }
-    ensures { IfOk result (λ next. (next ≡ first + instance_count frame.now (message_at frame.now message))
-        × (numbers.new.items ≡ numbers.old.items ++ cond (names frame.now rounds choices.now round message) ((message_at frame.now message).number ∷ []) [])) }
+
+    ensures { IfOk result (λ next.
+        (next ≡ first + instance_count frame.now (message_at frame.now message))
+        × (numbers.new.items ≡ numbers.old.items
+        ++ cond (names frame.now rounds choices.now round message)
+        ((message_at frame.now message).number ∷ []) [])) }
 {
     let message = frame.message(message);
     let count = frame.ticks() / message.period();
@@ -117,7 +127,9 @@ fn make_tables(
     choices: &[i64],
 ) -> Result<Vec<ListOf<u32>>, AllocError>
     requires full { length choices.now ≡ length (decisions frame.now) }
-    ensures { IfOk result (λ v. v.items ≡ map (table_of frame.now rounds choices.now) (below rounds)) }
+
+    ensures { IfOk result (λ v. v.items ≡ map (table_of frame.now rounds choices.now)
+        (below rounds)) }
 {
     let mut tables = Vec::new(alloc);
     for round in 0..rounds.get() {
@@ -136,6 +148,7 @@ pub(crate) fn make_schedule(
 ) -> Result<Schedule, AllocError>
     requires full { length choices.now ≡ length (decisions frame.now) }
     requires values { length values.now ≡ vars frame.now rounds }
+
     ensures { IfOk result (λ s. s ≡ schedule_of frame.now rounds choices.now (listed values.now)) }
 {
     let count = rounds.get();
