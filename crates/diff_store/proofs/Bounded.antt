@@ -152,5 +152,5 @@ module _ (n k : ℕ) (ds : List Diff) (v : ℕ → ℤ) (within : k ≤ length d
       (λ upto. upto)
 
 -- the values of n variables
-pub low_values : (n k : ℕ) (ds : List Diff) (vs : List ℤ) → n ≤ 768 → k ≤ length ds → InRange n ds → All Small ds → LeastOfFirst k ds (listed vs) → Low (listed vs)
+pub low_values : (n k : ℕ) (ds : List Diff) (vs : List ℤ) → n ≤ 400_000 → k ≤ length ds → InRange n ds → All Small ds → LeastOfFirst k ds (listed vs) → Low (listed vs)
 low_values n k ds vs few within range small h y = let b = bounded n k ds (listed vs) within range small h y in omega (arith, ints, few, b)

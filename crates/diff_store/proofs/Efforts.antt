@@ -20,12 +20,12 @@ count_more : (ws : List Bool) (x : ℕ) → x < length ws → count_by (λ w. w)
 count_more ws x l = let s = sum_by-set one ws x true false l in omega (arith, s)
 
 abbrev gap : ℤ → ℕ
-gap v = unsigned_abs (pos 20_000_000_000_000_000 -ℤ v)
+gap v = unsigned_abs (pos 8_100_000_000_000_000_000 -ℤ v)
 
-gap_less : (v w : ℤ) → v <ℤ w → w ≤ℤ pos 20_000_000_000_000_000 → gap w < gap v
+gap_less : (v w : ℤ) → v <ℤ w → w ≤ℤ pos 8_100_000_000_000_000_000 → gap w < gap v
 gap_less v w less top = omega (arith, ints)
 
-pub raise_falls : (vs : List ℤ) (ws : List Bool) (y : ℕ) (w : ℤ) → y < length vs → length ws ≡ length vs → listed vs y <ℤ w → w ≤ℤ pos 20_000_000_000_000_000 → left_to_do (set vs y w) (set ws y true) ≤ left_to_do vs ws
+pub raise_falls : (vs : List ℤ) (ws : List Bool) (y : ℕ) (w : ℤ) → y < length vs → length ws ≡ length vs → listed vs y <ℤ w → w ≤ℤ pos 8_100_000_000_000_000_000 → left_to_do (set vs y w) (set ws y true) ≤ left_to_do vs ws
 raise_falls vs ws y w l size less top =
     let s = sum_by-set gap vs y w (pos 0) l in
     let g = gap_less (listed vs y) w less top in

@@ -20,25 +20,25 @@ back ds causes x (suc k) = (at ds (beside causes (back ds causes x k))).x
 -- ---- the order along causes
 -- how far a variable rose; one that did not counts as above all that did
 abbrev pub gain : (ℕ → ℤ) → (ℕ → ℤ) → ℕ → ℤ
-gain base v y = cond (int_lt (base y) (v y)) (v y -ℤ base y) (pos 30_000_000_000_000_000)
+gain base v y = cond (int_lt (base y) (v y)) (v y -ℤ base y) (pos 9_000_000_000_000_000_000)
 
-gain_is : (base v : ℕ → ℤ) (y : ℕ) → ((base y <ℤ v y) × (gain base v y ≡ v y -ℤ base y)) ⊎ ((v y ≤ℤ base y) × (gain base v y ≡ pos 30_000_000_000_000_000))
+gain_is : (base v : ℕ → ℤ) (y : ℕ) → ((base y <ℤ v y) × (gain base v y ≡ v y -ℤ base y)) ⊎ ((v y ≤ℤ base y) × (gain base v y ≡ pos 9_000_000_000_000_000_000))
 gain_is base v y = by (int_lt (base y) (v y)) refl
   where
-    by : (t : Bool) → int_lt (base y) (v y) ≡ t → ((base y <ℤ v y) × (cond t (v y -ℤ base y) (pos 30_000_000_000_000_000) ≡ v y -ℤ base y)) ⊎ ((v y ≤ℤ base y) × (cond t (v y -ℤ base y) (pos 30_000_000_000_000_000) ≡ pos 30_000_000_000_000_000))
+    by : (t : Bool) → int_lt (base y) (v y) ≡ t → ((base y <ℤ v y) × (cond t (v y -ℤ base y) (pos 9_000_000_000_000_000_000) ≡ v y -ℤ base y)) ⊎ ((v y ≤ℤ base y) × (cond t (v y -ℤ base y) (pos 9_000_000_000_000_000_000) ≡ pos 9_000_000_000_000_000_000))
     by true e = inl (omega (arith, ints), refl)
     by false e = inr (omega (arith, ints), refl)
 
 gain_raised : (base v : ℕ → ℤ) (y : ℕ) → base y <ℤ v y → gain base v y ≡ v y -ℤ base y
 gain_raised base v y h = ⊎_elim
     (λ (a : (base y <ℤ v y) × (gain base v y ≡ v y -ℤ base y)). a.1)
-    (λ (b : (v y ≤ℤ base y) × (gain base v y ≡ pos 30_000_000_000_000_000)). absurd (let b0 = b.0 in omega (arith, ints, h, b0)))
+    (λ (b : (v y ≤ℤ base y) × (gain base v y ≡ pos 9_000_000_000_000_000_000)). absurd (let b0 = b.0 in omega (arith, ints, h, b0)))
     (gain_is base v y)
 
-gain_kept : (base v : ℕ → ℤ) (y : ℕ) → v y ≡ base y → gain base v y ≡ pos 30_000_000_000_000_000
+gain_kept : (base v : ℕ → ℤ) (y : ℕ) → v y ≡ base y → gain base v y ≡ pos 9_000_000_000_000_000_000
 gain_kept base v y h = ⊎_elim
     (λ (a : (base y <ℤ v y) × (gain base v y ≡ v y -ℤ base y)). absurd (let a0 = a.0 in omega (arith, ints, h, a0)))
-    (λ (b : (v y ≤ℤ base y) × (gain base v y ≡ pos 30_000_000_000_000_000)). b.1)
+    (λ (b : (v y ≤ℤ base y) × (gain base v y ≡ pos 9_000_000_000_000_000_000)). b.1)
     (gain_is base v y)
 
 -- a rose more than y, or as much and y was raised after it

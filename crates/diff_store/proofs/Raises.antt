@@ -67,7 +67,7 @@ module _ (ds : List Diff) (i : ℕ) (vs : List ℤ) (cs : List ℕ) (chain ws : 
         (λ x. let f = state.least.from_zero x in omega (arith, ints, f, up))
         n
 
-    topped : z ≤ℤ pos 20_000_000_000_000_000
+    topped : z ≤ℤ pos 8_100_000_000_000_000_000
     topped =
         let n = newest ds in
         let base = state.base in
@@ -75,16 +75,16 @@ module _ (ds : List Diff) (i : ℕ) (vs : List ℤ) (cs : List ℕ) (chain ws : 
         let low_y = state.low y in
         let zero_y = state.least.from_zero n.y in
         let s = (small (length ds - 1) (diff 0 0 (pos 0)) (let some = state.some in omega (arith, some))).0 in
-        by_lt_z {P = z ≤ℤ pos 20_000_000_000_000_000} (base n.y) (base n.x -ℤ n.c)
+        by_lt_z {P = z ≤ℤ pos 8_100_000_000_000_000_000} (base n.y) (base n.x -ℤ n.c)
         (λ less. let t = lifted (base n.x -ℤ n.c -ℤ base n.y) (omega (arith, ints, less)) (omega (arith, ints)) in omega (arith, ints, low_x, low_y, zero_y, s, t))
         (λ ge. let t = lifted (pos 0) (omega (arith, ints)) (omega (arith, ints, ge)) in omega (arith, ints, low_y, t))
 
   module _ (small : All Small ds) where
-    pub forced_top : forced ≤ℤ pos 20_000_000_000_000_000
+    pub forced_top : forced ≤ℤ pos 8_100_000_000_000_000_000
     forced_top = topped small forced (at ds i).y forced_under
 
     -- numbers that are far from the range's ends
-    pub value_top : (y : ℕ) → listed vs y ≤ℤ pos 20_000_000_000_000_000
+    pub value_top : (y : ℕ) → listed vs y ≤ℤ pos 8_100_000_000_000_000_000
     value_top y = topped small (listed vs y) y (λ w m z n. state.under w m z n y)
 
     pub value_zero : (y : ℕ) → pos 0 ≤ℤ listed vs y

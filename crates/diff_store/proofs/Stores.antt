@@ -181,7 +181,7 @@ pub pushed_small : (ds ds' : List Diff) (d : Diff) → ds' ≡ ds ++ d ∷ [] �
 pushed_small ds ds' d e h s = subst (λ (cs : List Diff). All Small cs) (sym e) (All-push Small ds d h s)
 
 -- ---- what is shown
-module _ (n : ℕ) (ds : List Diff) (values : List ℤ) (few : n ≤ 768) (range : InRange n ds) (small : All Small ds) (h : LeastOfFirst (length ds) ds (listed values)) (x : ℕ) (t : ℤ) (is : t ≡ listed values x) where
+module _ (n : ℕ) (ds : List Diff) (values : List ℤ) (few : n ≤ 400_000) (range : InRange n ds) (small : All Small ds) (h : LeastOfFirst (length ds) ds (listed values)) (x : ℕ) (t : ℤ) (is : t ≡ listed values x) where
   pub least_at : (v : ℕ → ℤ) × LeastValues ds v × (to_z w64 (of_z w64 t) ≡ v x)
   least_at =
       let low = low_values n (length ds) ds values few (omega arith) range small h x in

@@ -9,7 +9,7 @@ use borrow.Author.Differences.{same_in}
 -- a value that is lower than it may be by a bound
 pub record Modest (v c : ℤ) : Type 0 where
   pub from_zero : pos 0 ≤ℤ v
-  pub top : (v -ℤ c) ≤ℤ pos 20_000_000_000_000_000
+  pub top : (v -ℤ c) ≤ℤ pos 8_100_000_000_000_000_000
   pub low : neg_ℤ (pos 10_000_000_000_000) ≤ℤ c
   pub high : c ≤ℤ pos 10_000_000_000_000
 
@@ -29,7 +29,7 @@ modest_is v c m =
     let h = m.high in
     same_in _ _ (omega (arith, ints, z, t, l, h))
 
-module _ (v c w : ℤ) (m : Modest v c) (low : pos 0 ≤ℤ w) (high : w ≤ℤ pos 20_000_000_000_000_000) where
+module _ (v c w : ℤ) (m : Modest v c) (low : pos 0 ≤ℤ w) (high : w ≤ℤ pos 8_100_000_000_000_000_000) where
   -- what the code's test says
   pub test_met : le_z (to_z w64 (of_z w64 (to_z w64 (of_z w64 v) -ℤ to_z w64 (of_z w64 c)))) (to_z w64 (of_z w64 w)) ≡ true → (v -ℤ w) ≤ℤ c
   test_met h =
@@ -47,17 +47,17 @@ module _ (v c w : ℤ) (m : Modest v c) (low : pos 0 ≤ℤ w) (high : w ≤ℤ 
       let k = m.high in
       grind (arith, ints, z, t, l, k, low, high, h)
 
-pub modest_of : (v c : ℤ) → pos 0 ≤ℤ v → v ≤ℤ pos 7_690_000_000_000_000 → (neg_ℤ (pos 10_000_000_000_000) ≤ℤ c) × (c ≤ℤ pos 10_000_000_000_000) → Modest v c
+pub modest_of : (v c : ℤ) → pos 0 ≤ℤ v → v ≤ℤ pos 4_000_010_000_000_000_000 → (neg_ℤ (pos 10_000_000_000_000) ≤ℤ c) × (c ≤ℤ pos 10_000_000_000_000) → Modest v c
 modest_of v c z t s = record { from_zero = z; top = let l = s.0 in omega (arith, ints, t, l); low = s.0; high = s.1 }
 
-pub test_exact : (v c w : ℤ) → Modest v c → pos 0 ≤ℤ w → w ≤ℤ pos 20_000_000_000_000_000 → IsTrue (le_z (to_z w64 (of_z w64 (to_z w64 (of_z w64 v) -ℤ to_z w64 (of_z w64 c)))) (to_z w64 (of_z w64 w))) ↔ ((v -ℤ w) ≤ℤ c)
+pub test_exact : (v c w : ℤ) → Modest v c → pos 0 ≤ℤ w → w ≤ℤ pos 8_100_000_000_000_000_000 → IsTrue (le_z (to_z w64 (of_z w64 (to_z w64 (of_z w64 v) -ℤ to_z w64 (of_z w64 c)))) (to_z w64 (of_z w64 w))) ↔ ((v -ℤ w) ≤ℤ c)
 test_exact v c w m low high = (
   test_met v c w m low high,
   λ meets. ⊎_elim (λ e. e) (λ e. absurd (let b = test_broken v c w m low high e in omega (arith, ints, b, meets))) (cases_Bool _),
 )
 
-pub tick_is : (x : ℤ) → pos 0 ≤ℤ x → x ≤ℤ pos 7_690_000_000_000_000 → to_z w64 (of_z w64 x) ≡ x
+pub tick_is : (x : ℤ) → pos 0 ≤ℤ x → x ≤ℤ pos 4_000_010_000_000_000_000 → to_z w64 (of_z w64 x) ≡ x
 tick_is x low high = same_in _ _ (omega (arith, ints, low, high))
 
-pub value_is : (x : ℤ) → pos 0 ≤ℤ x → x ≤ℤ pos 20_000_000_000_000_000 → to_z w64 (of_z w64 x) ≡ x
+pub value_is : (x : ℤ) → pos 0 ≤ℤ x → x ≤ℤ pos 8_100_000_000_000_000_000 → to_z w64 (of_z w64 x) ≡ x
 value_is x low high = same_in _ _ (omega (arith, ints, low, high))

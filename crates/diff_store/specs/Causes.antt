@@ -44,7 +44,7 @@ pub record LeadsHome (ds : List Diff) (causes : List ℕ) (last : ℕ) : Type 0 
   pub from_zero : FromZero base
   pub values : ℕ → ℤ
   pub above : (y : ℕ) → base y ≤ℤ values y
-  pub top : (y : ℕ) → values y ≤ℤ pos 20_000_000_000_000_000
+  pub top : (y : ℕ) → values y ≤ℤ pos 8_100_000_000_000_000_000
   pub time : ℕ → ℕ
   pub caused : (y : ℕ) → pos 0 <ℤ values y → IsCause (length ds) ds values time (beside causes y) y
   pub chain : List Bool

@@ -23,4 +23,4 @@ pub record LeastOfFirst (k : ℕ) (ds : List Diff) (v : ℕ → ℤ) : Type 0 wh
 
 -- values that no least ones are above
 abbrev pub Low : (ℕ → ℤ) → Type 0
-Low v = (y : ℕ) → v y ≤ℤ pos 7_690_000_000_000_000
+Low v = (y : ℕ) → v y ≤ℤ pos 4_000_010_000_000_000_000

@@ -37,4 +37,4 @@ pub record Raising (ds : List Diff) (vs : List ℤ) (causes : List ℕ) (chain w
 
 -- how far values may still rise and variables may still be taken
 abbrev pub left_to_do : List ℤ → List Bool → ℕ
-left_to_do vs waits = 2 * sum_by (λ v. unsigned_abs (pos 20_000_000_000_000_000 -ℤ v)) vs + count_by (λ w. w) waits
+left_to_do vs waits = 2 * sum_by (λ v. unsigned_abs (pos 8_100_000_000_000_000_000 -ℤ v)) vs + count_by (λ w. w) waits

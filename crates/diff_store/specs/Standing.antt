@@ -22,7 +22,7 @@ pub record Answered (ds : List Diff) (trail : Trailing) (vs : List ℤ) (causes 
 
 -- the fields of a store
 pub record Standing (s : Inside) : Type 0 where
-  pub few : s.variables ≤ 768
+  pub few : s.variables ≤ 400_000
   pub long : s.constraints < 2 ^ 32
   pub fits : length s.list.items ≤ s.constraints
   pub range : InRange s.variables s.list.items

@@ -30,7 +30,7 @@ pub(crate) fn answer(
     worklist: &mut Worklist,
 ) -> Option<u32>
     requires some { 0 < length list.now }
-    requires few { length values.old ≤ 768 }
+    requires few { length values.old ≤ 400_000 }
     requires long { length list.now < 2 ^ 32 }
     requires range { InRange (length values.old) list.now }
     requires small { All Small list.now }

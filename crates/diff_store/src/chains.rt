@@ -34,8 +34,8 @@ pub(crate) fn link(
     ensures nexts_capacity { vec_capacity nexts.old ≤ vec_capacity nexts.new }
 {
     let position = list.len() as u32;
-    list.push(d).unwrap();
-    nexts.push(heads[d.x as usize]).unwrap();
+    list.push_reserved(d);
+    nexts.push_reserved(heads[d.x as usize]);
     heads[d.x as usize] = Some(position);
 }
 

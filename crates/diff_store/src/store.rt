@@ -14,6 +14,12 @@ use std::alloc::{AllocError, Global};
 use std::marker::Model;
 use tick_num::{Diff, Time};
 
+/// Of so many variables no value leaves the range of a `Time`.
+const MOST_VARIABLES: u32 = 400_000;
+
+/// So many constraints have positions of 32 bits.
+const MOST_CONSTRAINTS: usize = 4_294_967_295;
+
 /// Whether the list has a solution with the constraint that was pushed.
 #[derive(Clone, Copy, Debug, PartialEq, Eq)]
 pub enum Pushed {
@@ -64,16 +70,20 @@ impl Model for Store {
 }
 
 impl Store {
-    /// Takes room for up to `len` constraints, fewer than 2^32, on the variables 0 to `n - 1`, at
-    /// most 768 of them. The list is empty. No other call takes memory, and an error says that there
-    /// is none.
+    /// Takes room for up to `len` constraints on the variables 0 to `n - 1`. The list is empty. No
+    /// other call takes memory. An error says that there is no room for so many: none has room for
+    /// more than 400,000 variables or for 2^32 constraints.
     pub fn reserve(alloc: Global, n: u32, len: usize) -> Result<Store, AllocError>
-        requires few { n ≤ 768 }
-        requires long { len < 4_294_967_296 }
         ensures variables { IfOk result (λ s. s.variables ≡ n) }
         ensures constraints { IfOk result (λ s. s.constraints ≡ len) }
         ensures list { IfOk result (λ s. s.list ≡ []) }
     {
+        if n > MOST_VARIABLES {
+            return Err(AllocError);
+        }
+        if len > MOST_CONSTRAINTS {
+            return Err(AllocError);
+        }
         let variables = n as usize;
         Ok(Store {
             variables,

@@ -13,8 +13,6 @@ use tick_num::Diff;
 
 /// A store without constraints.
 fn made(alloc: Global, n: u32, len: usize) -> Result<Store, AllocError>
-    requires few { n ≤ 768 }
-    requires long { len < 4_294_967_296 }
     ensures variables { IfOk result (λ s. s.variables ≡ n) }
     ensures constraints { IfOk result (λ s. s.constraints ≡ len) }
     ensures size { IfOk result (λ s. length s.list ≡ 0) }

@@ -58,7 +58,7 @@ impl Model for Trail {
 impl Trail {
     /// Room for `len` pushes on `n` variables.
     pub(crate) fn reserve(alloc: Global, n: usize, len: usize) -> Result<Trail, AllocError>
-        requires few { n ≤ 768 }
+        requires few { n ≤ 400_000 }
         requires long { len < 4_294_967_296 }
         ensures pushes { IfOk result (λ t. t.pushes ≡ len) }
         ensures entries { IfOk result (λ t. t.entries ≡ []) }
@@ -83,7 +83,7 @@ impl Trail {
         ensures pushes { self.new.pushes ≡ self.old.pushes }
         ensures size { length self.new.kept ≡ length self.old.kept }
     {
-        self.starts.push(self.entries.len()).unwrap();
+        self.starts.push_reserved(self.entries.len());
     }
 
     /// Makes ready for the entries of the newest push, of which there is none yet.
@@ -110,13 +110,11 @@ impl Trail {
             return;
         }
         self.kept.mark(variable);
-        self.entries
-            .push(Was {
-                variable,
-                cause,
-                value,
-            })
-            .unwrap();
+        self.entries.push_reserved(Was {
+            variable,
+            cause,
+            value,
+        });
     }
 
     /// Puts back what the newest push replaced.

@@ -4,35 +4,28 @@ ghost use Rattle.std.specs.Prelude.{◌≡◌, ◌<◌, length, replicate, slice
 ghost use Rattle.diff_store.specs.Raising.{waits_in, NoneWaits};
 
 use std::alloc::{AllocError, Global};
+use std::collections::VecDeque;
 use std::marker::Model;
-use std::mem::swap;
 
-/// Variables that wait, each once, the first that came first: those that come while a batch is taken
-/// are the next one.
+/// Variables that wait, each once, the first that came first.
 #[derive(Drop)]
 pub(crate) struct Worklist {
-    /// The batch that is taken.
-    now: Vec<u32>,
-    /// How many of the batch are taken already.
-    taken: usize,
-    /// The next one.
-    later: Vec<u32>,
+    queue: VecDeque<u32>,
     /// Whether each variable waits.
     waits: Vec<bool>,
 }
 
 impl Model for Worklist {
-    ghost use Rattle.std.specs.Prelude.{List, Bool, length, drop, ◌≤◌, vec_capacity};
+    ghost use Rattle.std.specs.Prelude.{List, Bool, length, ◌≤◌};
+    ghost use Rattle.std.specs.VecDeque.{deque_capacity};
     ghost use Rattle.diff_store.specs.Queued.{Queued};
 
     ghost Value = { List Bool };
 
     ghost view = { λ w. w.waits.items };
 
-    ghost invariant = { λ w. Queued (drop w.taken w.now.items) w.later.items w.waits.items
-        × (w.taken ≤ length w.now.items)
-        × (length w.waits.items ≤ vec_capacity w.now)
-        × (length w.waits.items ≤ vec_capacity w.later) };
+    ghost invariant = { λ w. Queued w.queue.items w.waits.items
+        × (length w.waits.items ≤ deque_capacity w.queue) };
 }
 
 impl Worklist {
@@ -41,9 +34,7 @@ impl Worklist {
         ensures { IfOk result (λ w. w ≡ replicate n false) }
     {
         Ok(Worklist {
-            now: Vec::with_capacity(alloc, n)?,
-            taken: 0,
-            later: Vec::with_capacity(alloc, n)?,
+            queue: VecDeque::with_capacity(alloc, n)?,
             waits: vec![in alloc; false; n]?,
         })
     }
@@ -57,10 +48,10 @@ impl Worklist {
             return;
         }
         self.waits[variable as usize] = true;
-        self.later.push(variable).unwrap();
+        self.queue.push_back_reserved(variable);
     }
 
-    /// Takes a variable, of the next batch where this one is done; None where none waits.
+    /// Takes the variable that came first; None where none waits.
     pub(crate) fn take(&mut self) -> Option<u32>
         ensures range { IfSome result (λ x. x < length self.old) }
         ensures waited { IfSome result (λ x. waits_in self.old x ≡ true) }
@@ -68,20 +59,7 @@ impl Worklist {
         ensures none { IfNone result (NoneWaits self.new) }
         ensures same { IfNone result (self.new ≡ self.old) }
     {
-        if self.taken < self.now.len() {
-            let variable = self.now[self.taken];
-            self.taken += 1;
-            self.waits[variable as usize] = false;
-            return Some(variable);
-        }
-        swap(&mut self.now, &mut self.later);
-        self.later.truncate(0);
-        self.taken = 0;
-        if self.now.len() == 0 {
-            return None;
-        }
-        let variable = self.now[0];
-        self.taken = 1;
+        let variable = self.queue.pop_front()?;
         self.waits[variable as usize] = false;
         Some(variable)
     }

@@ -4,7 +4,7 @@ use Rattle.tick_num.specs.Differences.{listed}
 use Rattle.diff_store.proofs.Ticks.{modest_of, test_exact}
 use Rattle.diff_store.proofs.raising.is_met.Goals as goal
 
-far : (w : ℤ) → w ≤ℤ pos 7_690_000_000_000_000 → w ≤ℤ pos 20_000_000_000_000_000
+far : (w : ℤ) → w ≤ℤ pos 4_000_010_000_000_000_000 → w ≤ℤ pos 8_100_000_000_000_000_000
 far w h = omega (arith, ints, h)
 
 pub returns : goal.returns

@@ -20,8 +20,8 @@ invariant_of-result c =
     let starts = c.in_ok-reserve-2.ensures.starts in
     let waits = c.in_ok-reserve-3.ensures in
     record {
-      few = c.requires.few;
-      long = c.requires.long;
+      few = search rules;
+      long = search rules;
       fits = let e = ap length list in omega (arith, e);
       range = subst (InRange n) (sym list) (All-nil (λ (d : Diff). (d.x < n) × (d.y < n)));
       small = subst (λ (ds : List Diff). All Small ds) (sym list) (All-nil Small);

@@ -21,8 +21,8 @@ returns-then-has c v v' c1 c2 r =
     subst (λ (u : Trailing). KeepsPast u u v v' c1 c2) c.self.view_is
     (already (length s.kept) t c.self.invariant.0 k c.args.variable c.args.value c.args.cause has v v' c1 c2 r)
 
-pub unwrap-requires : goal.unwrap-requires
-unwrap-requires c =
+pub push_reserved-requires : goal.push_reserved-requires
+push_reserved-requires c =
     let s = c.self.inside in
     let t : Trailing = record { pushes = s.pushes; entries = s.entries.items; starts = s.starts.items; kept = s.kept } in
     let back = sym c.self.view_is in
@@ -32,7 +32,7 @@ unwrap-requires c =
     let inv = c.self.invariant in
     let room = entries_room (length s.kept) t inv.0 k c.args.variable c.args.value c.args.cause refl low free in
     let fits = room_for (length s.kept) (length s.entries.items) (length s.starts.items) s.pushes (vec_capacity s.entries) room inv.1 inv.3 in
-    c.push.ensures.succeeds (omega (arith, fits))
+    omega (arith, fits)
 
 pub invariant_of-self : goal.invariant_of-self
 invariant_of-self c =
@@ -46,15 +46,15 @@ invariant_of-self c =
     let free : marked s.kept c.args.variable ≡ false = sym c.has.ensures ∙ c.if-has.false in
     let inv = c.self.invariant in
     let is : to_z w64 (of_z w64 c.args.value) ≡ c.args.value = search rules in
-    let written : c.push.new.self.items ≡ s.entries.items ++ record { variable = y; cause = c.args.cause; value = to_z w64 (of_z w64 c.args.value) } ∷ [] =
-    rw c.unwrap.ensures at c.push.ensures.items in
-    let pushed : c.push.new.self.items ≡ s.entries.items ++ record { variable = y; cause = c.args.cause; value = c.args.value } ∷ [] =
+    let written : c.push_reserved.new.self.items ≡ s.entries.items ++ record { variable = y; cause = c.args.cause; value = to_z w64 (of_z w64 c.args.value) } ∷ [] =
+    c.push_reserved.ensures.items in
+    let pushed : c.push_reserved.new.self.items ≡ s.entries.items ++ record { variable = y; cause = c.args.cause; value = c.args.value } ∷ [] =
     written ∙ ap (λ (z : ℤ). s.entries.items ++ record { variable = y; cause = c.args.cause; value = z } ∷ []) is in
     let size = ap length c.mark.ensures ∙ length-set s.kept y true in
     let ordered = added_ordered n t inv.0 k y c.args.value c.args.cause refl low free in
-    let grown = c.push.ensures.capacity in (
-      subst (λ m. Ordered m (record { pushes = s.pushes; entries = c.push.new.self.items; starts = s.starts.items; kept = c.mark.new.self })) (sym size)
-          (subst (λ (ks : List Bool). Ordered n (record { pushes = s.pushes; entries = c.push.new.self.items; starts = s.starts.items; kept = ks })) (sym c.mark.ensures)
+    let grown = c.push_reserved.ensures.capacity in (
+      subst (λ m. Ordered m (record { pushes = s.pushes; entries = c.push_reserved.new.self.items; starts = s.starts.items; kept = c.mark.new.self })) (sym size)
+          (subst (λ (ks : List Bool). Ordered n (record { pushes = s.pushes; entries = c.push_reserved.new.self.items; starts = s.starts.items; kept = ks })) (sym c.mark.ensures)
           (subst (λ (ws : List Was). Ordered n (record { pushes = s.pushes; entries = ws; starts = s.starts.items; kept = set s.kept y true })) (sym pushed) ordered)),
       inv.1,
       inv.2,
@@ -72,11 +72,11 @@ returns c v v' c1 c2 r =
     let low : y < n = subst (λ (u : Trailing). y < length u.kept) back c.requires.variable in
     let free : marked s.kept c.args.variable ≡ false = sym c.has.ensures ∙ c.if-has.false in
     let is : to_z w64 (of_z w64 c.args.value) ≡ c.args.value = search rules in
-    let written : c.push.new.self.items ≡ s.entries.items ++ record { variable = y; cause = c.args.cause; value = to_z w64 (of_z w64 c.args.value) } ∷ [] =
-    rw c.unwrap.ensures at c.push.ensures.items in
-    let pushed : c.push.new.self.items ≡ s.entries.items ++ record { variable = y; cause = c.args.cause; value = c.args.value } ∷ [] =
+    let written : c.push_reserved.new.self.items ≡ s.entries.items ++ record { variable = y; cause = c.args.cause; value = to_z w64 (of_z w64 c.args.value) } ∷ [] =
+    c.push_reserved.ensures.items in
+    let pushed : c.push_reserved.new.self.items ≡ s.entries.items ++ record { variable = y; cause = c.args.cause; value = c.args.value } ∷ [] =
     written ∙ ap (λ (z : ℤ). s.entries.items ++ record { variable = y; cause = c.args.cause; value = z } ∷ []) is in
     let keeps = added_keeps n t c.self.invariant.0 k y c.args.value c.args.cause refl low free v v' c1 c2 r in
-    subst (λ (u : Trailing). KeepsPast u (record { pushes = s.pushes; entries = c.push.new.self.items; starts = s.starts.items; kept = c.mark.new.self }) v v' c1 c2) c.self.view_is
-    (subst (λ (ks : List Bool). KeepsPast t (record { pushes = s.pushes; entries = c.push.new.self.items; starts = s.starts.items; kept = ks }) v v' c1 c2) (sym c.mark.ensures)
+    subst (λ (u : Trailing). KeepsPast u (record { pushes = s.pushes; entries = c.push_reserved.new.self.items; starts = s.starts.items; kept = c.mark.new.self }) v v' c1 c2) c.self.view_is
+    (subst (λ (ks : List Bool). KeepsPast t (record { pushes = s.pushes; entries = c.push_reserved.new.self.items; starts = s.starts.items; kept = ks }) v v' c1 c2) (sym c.mark.ensures)
     (subst (λ (ws : List Was). KeepsPast t (record { pushes = s.pushes; entries = ws; starts = s.starts.items; kept = set s.kept y true }) v v' c1 c2) (sym pushed) keeps))
