@@ -82,12 +82,19 @@ impl Model for Inputs {
 
 impl Inputs {
     /// No inputs.
-    pub(crate) fn new() -> Self
+    pub fn new() -> Self
         ensures { result ≡ [] }
     {
         Inputs {
             items: ArrayVec::new(),
         }
+    }
+
+    /// Takes all inputs away.
+    pub(crate) fn clear(&mut self)
+        ensures { self.new ≡ [] }
+    {
+        self.items.clear();
     }
 
     /// Adds these values at the end.

@@ -224,18 +224,17 @@ impl Registers {
     }
 
     /// Takes the in registers of a task, by the messages of its mode: the inputs of a run.
-    pub(crate) fn take_inputs(&mut self, messages: &[OwnMessage], task: u32) -> Inputs
+    pub(crate) fn take_inputs(&mut self, messages: &[OwnMessage], task: u32, inputs: &mut Inputs)
         requires numbers { All MessageFits messages.now }
         requires ascending { AllPairs IsBefore messages.now }
         requires room { length (inputs_of self.old.ins task messages.now) ≤ 64 }
-        ensures inputs { result ≡ inputs_of self.old.ins task messages.now }
+        ensures inputs { inputs.new ≡ inputs_of self.old.ins task messages.now }
         ensures emptied { self.new ≡ record self.old { ins = fold (emptied_for task) self.old.ins messages.now } }
     {
-        let mut inputs = Inputs::new();
+        inputs.clear();
         for message in messages {
-            self.take_input(message, task, &mut inputs);
+            self.take_input(message, task, inputs);
         }
-        inputs
     }
 
     /// Begins a run of a task, whose end will answer this value.

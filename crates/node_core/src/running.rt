@@ -6,7 +6,7 @@ ghost use Rattle.runtime_model.specs.Placement.{not_negative, placed};
 ghost use Rattle.node_core.specs.Conditions.{MayHear, MayMiss, MayPass, MayReceive, MayStart};
 ghost use Rattle.node_core.specs.Fits.{TableFits};
 ghost use Rattle.node_core.specs.Registers.{no_registers};
-ghost use Rattle.node_core.specs.Rules.{announced, coasted, end_answer, ended, heard, inputs_now, passed, phase_known, received, sent, start_answer, started, starts, takes, turned};
+ghost use Rattle.node_core.specs.Rules.{announced, coasted, end_answer, ended, heard, inputs_now, passed, phase_known, received, sent, started, starts, takes, turned};
 ghost use Rattle.node_core.specs.Running.{mode_of};
 ghost use Rattle.task_body.specs.Body.{answer_of, fired};
 
@@ -192,23 +192,25 @@ impl Running {
     }
 
     /// Starts a task, where its start is placed: the body is fired with the inputs from its in registers.
-    pub(crate) fn start(&mut self, task: u32, body: &mut dyn TaskBody) -> Option<Inputs>
+    /// Answers whether it started.
+    pub(crate) fn start(&mut self, task: u32, body: &mut dyn TaskBody, inputs: &mut Inputs) -> bool
         requires { MayStart self.old task }
 
-        ensures answer { result ≡ start_answer self.old task }
+        ensures answer { result ≡ starts self.old task }
+        ensures inputs { inputs.new ≡ cond (starts self.old task) (inputs_now self.old task) inputs.old }
         ensures state { self.new ≡ started self.old task
             (answer_of (seen body.old) task (inputs_now self.old task)) }
         ensures body { seen body.new ≡ cond (starts self.old task)
             (fired (seen body.old) task (inputs_now self.old task)) (seen body.old) }
     {
         if !self.starts(task) {
-            return None;
+            return false;
         }
         let messages = mode_at(&self.table, self.mode).messages.as_slice();
-        let inputs = self.registers.take_inputs(messages, task);
+        self.registers.take_inputs(messages, task, inputs);
         let value = body.fire(task, inputs.as_slice());
         self.registers.begin(task, value);
-        Some(inputs)
+        true
     }
 
     /// Ends the run of a task, where it is in progress.

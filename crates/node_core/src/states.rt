@@ -114,6 +114,14 @@ impl Synced {
         Synced { kept: self.kept }
     }
 
+    /// Hears the next beacon as `hear` does, in place.
+    pub fn hear_on(&mut self, b: Beacon)
+        requires { MayHear self.old.table b }
+        ensures { self.new ≡ heard self.old b }
+    {
+        self.kept.hear(b);
+    }
+
     /// Misses the beacon of the next round, to whose start the node has come.
     pub fn miss(mut self) -> Missed
         requires { MayMiss self }
@@ -174,7 +182,27 @@ impl Synced {
         ensures body { seen body.new ≡ cond (starts self.old task)
             (fired (seen body.old) task (inputs_now self.old task)) (seen body.old) }
     {
-        self.kept.start(task, body)
+        let mut inputs = Inputs::new();
+        if self.kept.start(task, body, &mut inputs) {
+            Some(inputs)
+        } else {
+            None
+        }
+    }
+
+    /// Starts a task as `start` does, and puts the inputs in place of others. Answers whether it started.
+    /// Where it did not, the other inputs stay.
+    pub fn start_with(&mut self, task: u32, body: &mut dyn TaskBody, inputs: &mut Inputs) -> bool
+        requires { MayStart self.old task }
+
+        ensures answer { result ≡ starts self.old task }
+        ensures inputs { inputs.new ≡ cond (starts self.old task) (inputs_now self.old task) inputs.old }
+        ensures state { self.new ≡ started self.old task
+            (answer_of (seen body.old) task (inputs_now self.old task)) }
+        ensures body { seen body.new ≡ cond (starts self.old task)
+            (fired (seen body.old) task (inputs_now self.old task)) (seen body.old) }
+    {
+        self.kept.start(task, body, inputs)
     }
 
     /// Ends the run of the task: its value goes to the task's out register, and is the answer.
@@ -234,7 +262,27 @@ impl Coasting {
         ensures body { seen body.new ≡ cond (starts self.old task)
             (fired (seen body.old) task (inputs_now self.old task)) (seen body.old) }
     {
-        self.kept.start(task, body)
+        let mut inputs = Inputs::new();
+        if self.kept.start(task, body, &mut inputs) {
+            Some(inputs)
+        } else {
+            None
+        }
+    }
+
+    /// Starts a task as `start` does, and puts the inputs in place of others. Answers whether it started.
+    /// Where it did not, the other inputs stay.
+    pub fn start_with(&mut self, task: u32, body: &mut dyn TaskBody, inputs: &mut Inputs) -> bool
+        requires { MayStart self.old task }
+
+        ensures answer { result ≡ starts self.old task }
+        ensures inputs { inputs.new ≡ cond (starts self.old task) (inputs_now self.old task) inputs.old }
+        ensures state { self.new ≡ started self.old task
+            (answer_of (seen body.old) task (inputs_now self.old task)) }
+        ensures body { seen body.new ≡ cond (starts self.old task)
+            (fired (seen body.old) task (inputs_now self.old task)) (seen body.old) }
+    {
+        self.kept.start(task, body, inputs)
     }
 
     /// Ends the run of the task: its value goes to the task's out register, and is the answer.

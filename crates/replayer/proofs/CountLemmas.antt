@@ -1,11 +1,14 @@
 -- One event more is counted.
-use Rattle.std.proofs.Common.{ℤ, pos, ◌≡◌, ℕ, ◌+◌, List, [], ◌∷◌, ◌++◌, length, refl, sym, ◌∙◌, ap, arith, append-nil, length-append}
+use Rattle.std.proofs.Common.{ℤ, pos, ◌≡◌, ℕ, ◌+◌, List, [], ◌∷◌, ◌++◌, length, Option, refl, sym, ◌∙◌, ap, arith, append-nil, length-append}
 use Rattle.std.specs.Prelude.{filter, if◌then◌else◌, ◌+ℤ◌, Bool, true, false}
 use Rattle.std.specs.List.{flat_map}
 use Rattle.std.proofs.lemmas.List.Elements.{filter-append}
 use Rattle.std.proofs.lemmas.List.Sums.{fold-append}
 use Rattle.std.proofs.lemmas.Grind.{flat_map-append}
+use Rattle.world_core.specs.declared.happened.Done.{Done}
+use Rattle.world_core.specs.declared.happened.Done.TheVariants.{Beacon as DoneBeacon, Sent as DoneSent, Silent as DoneSilent, Started as DoneStarted, Off as DoneOff, Ended as DoneEnded, Void as DoneVoid, Requested as DoneRequested, Restarted as DoneRestarted}
 use Rattle.world_core.specs.declared.happened.Happened.{Happened}
+use Rattle.world_core.specs.Done.{whole}
 use Rattle.replayer.specs.Counting.{CountsOneMore, counts_of, is_send, is_start, sent_values, sum_from}
 use Rattle.replayer.specs.declared.counts.Counts.{Counts}
 
@@ -49,3 +52,29 @@ counts_more hs h =
 
 pub one_more_counted : (before now : Counts) (h : Happened) → now ≡ with_one before h → CountsOneMore before h now
 one_more_counted before now h one hs are = one ∙ ap (λ (c : Counts). with_one c h) are ∙ counts_more hs h
+
+-- the inputs of a start are not counted
+abbrev parts_of : Happened → Bool × Bool × List ℤ
+parts_of h = (is_send h, is_start h, sent_values h)
+
+same_parts : (d : Done) (xs ys : List (Option ℤ)) → parts_of (whole d xs) ≡ parts_of (whole d ys)
+same_parts (DoneBeacon at beacon heard) xs ys = refl
+same_parts (DoneSent at v packet taken) xs ys = refl
+same_parts (DoneSilent at message) xs ys = refl
+same_parts (DoneStarted at v task) xs ys = refl
+same_parts (DoneOff at v task) xs ys = refl
+same_parts (DoneEnded at v task value) xs ys = refl
+same_parts (DoneVoid at v task) xs ys = refl
+same_parts (DoneRequested at mode) xs ys = refl
+same_parts (DoneRestarted at v) xs ys = refl
+
+pub counted_whole : (before now : Counts) (d : Done) (xs ys : List (Option ℤ)) → CountsOneMore before (whole d xs) now → CountsOneMore before (whole d ys) now
+counted_whole before now d xs ys one hs are =
+    let with : Bool × Bool × List ℤ → Counts = λ p. record {
+      events = before.events + 1;
+      sent = before.sent + (if p.0 then 1 else 0);
+      started = before.started + (if p.1 then 1 else 0);
+      values = sum_from before.values p.2;
+    } in
+    let whole_now = λ (zs : List (Option ℤ)). ap (λ (c : Counts). with_one c (whole d zs)) are ∙ counts_more hs (whole d zs) in
+    one hs are ∙ sym (whole_now xs) ∙ ap with (same_parts d xs ys) ∙ whole_now ys

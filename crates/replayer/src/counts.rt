@@ -1,11 +1,11 @@
 //! What is counted of a replay.
 
 ghost use Rattle.std.specs.Prelude.{◌≡◌, ◌+◌, ◌<◌, ◌≤◌, ◌^◌, ◌++◌, ◌∷◌, [], List, pos, ◌+ℤ◌, ◌≤ℤ◌};
-ghost use Rattle.world_core.specs.declared.happened.Happened.{Happened};
+ghost use Rattle.world_core.specs.Done.{whole};
 ghost use Rattle.replayer.specs.Counting.{CountsOneMore, HasRoom, IsSumFor, counts_of, sum_from};
 
 use node_core::Values;
-use world_core::Happened;
+use world_core::Done;
 
 /// How many events a replay had, in how many slots a node sent, how many runs were started, and the
 /// sum of all values that were sent.
@@ -54,18 +54,19 @@ impl Counts {
     }
 
     /// Counts one event more.
-    pub(crate) fn add(&mut self, happened: &Happened)
+    pub(crate) fn add(&mut self, done: &Done)
         requires { HasRoom self.old }
-        ensures counted { CountsOneMore self.old happened.now self.new }
+        ensures counted { CountsOneMore self.old (whole done.now []) self.new }
+        ensures one_more { self.new.events ≡ self.old.events + 1 }
         ensures room { self.new.events < 2 ^ 61 → HasRoom self.new }
     {
         self.events += 1;
-        match happened {
-            Happened::Sent { packet, .. } => {
+        match done {
+            Done::Sent { packet, .. } => {
                 self.sent += 1;
                 self.values = sum_with(self.values, &packet.values);
             }
-            Happened::Started { .. } => self.started += 1,
+            Done::Started { .. } => self.started += 1,
             _ => {}
         }
     }

@@ -3,6 +3,8 @@
 ghost use Rattle.std.specs.Prelude.{◌≡◌, ◌++◌, ◌∷◌, [], codes, if◌then◌else◌};
 ghost use Rattle.ttw_io.specs.Buffering.{HasPut, OnlyWrites};
 ghost use Rattle.ttw_text.specs.Numbers.{signed_spelled, spelled};
+ghost use Rattle.world_core.specs.Done.{whole};
+ghost use Rattle.world_core.specs.declared.happened.Happened.TheVariants.{Beacon as Beaconed, Ended, Sent, Started};
 ghost use Rattle.replayer.specs.Trace.{done_line, input_text, inputs_text, line, message_name, node_name};
 ghost use Rattle.replayer.specs.Trace.{nodes_text, task_text, values_text};
 
@@ -12,7 +14,7 @@ use itoa::Buffer as Digits;
 use node_core::{Inputs, Packet, Values};
 use tick_num::Time;
 use ttw_io::{Buffer, Failed, Sink};
-use world_core::Happened;
+use world_core::Done;
 
 /// The spelling of a number.
 fn number(digits: &mut Digits, n: u64) -> &[u8]
@@ -158,7 +160,7 @@ fn put_ended<S: Sink>(
     out: &mut S,
 ) -> Result<(), Failed>
     ensures put { HasPut result (S.held out.old) (S.held out.new) buffer.old buffer.new
-        (line names.now (Happened.Ended at node task value)) }
+        (line names.now (Ended at node task value)) }
     ensures sink { OnlyWrites result (S.faults out.old) (S.faults out.new)
         (S.flushes out.old) (S.flushes out.new) }
 {
@@ -193,7 +195,7 @@ fn put_started<S: Sink>(
     out: &mut S,
 ) -> Result<(), Failed>
     ensures put { HasPut result (S.held out.old) (S.held out.new) buffer.old buffer.new
-        (line names.now (Happened.Started at node task inputs.now)) }
+        (line names.now (Started at node task inputs.now)) }
     ensures sink { OnlyWrites result (S.faults out.old) (S.faults out.new)
         (S.flushes out.old) (S.flushes out.new) }
 {
@@ -243,7 +245,7 @@ fn put_sent<S: Sink>(
     out: &mut S,
 ) -> Result<(), Failed>
     ensures put { HasPut result (S.held out.old) (S.held out.new) buffer.old buffer.new
-        (line names.now (Happened.Sent at node packet.now taken)) }
+        (line names.now (Sent at node packet.now taken)) }
     ensures sink { OnlyWrites result (S.faults out.old) (S.faults out.new)
         (S.flushes out.old) (S.flushes out.new) }
 {
@@ -262,7 +264,7 @@ fn put_beacon<S: Sink>(
     out: &mut S,
 ) -> Result<(), Failed>
     ensures put { HasPut result (S.held out.old) (S.held out.new) buffer.old buffer.new
-        (line names.now (Happened.Beacon at beacon heard)) }
+        (line names.now (Beaconed at beacon heard)) }
     ensures sink { OnlyWrites result (S.faults out.old) (S.faults out.new)
         (S.flushes out.old) (S.flushes out.new) }
 {
@@ -284,58 +286,50 @@ fn put_beacon<S: Sink>(
 /// Puts the line of what happened.
 pub(crate) fn put_line<S: Sink>(
     names: &Names,
-    happened: &Happened,
+    done: &Done,
+    inputs: &Inputs,
     buffer: &mut Buffer,
     out: &mut S,
 ) -> Result<(), Failed>
     ensures put { HasPut result (S.held out.old) (S.held out.new) buffer.old buffer.new
-        (line names.now happened.now) }
+        (line names.now (whole done.now inputs.now)) }
     ensures sink { OnlyWrites result (S.faults out.old) (S.faults out.new)
         (S.flushes out.old) (S.flushes out.new) }
 {
-    match happened {
-        Happened::Beacon { at, beacon, heard } => put_beacon(
-            names, *at, *beacon, *heard, buffer, out,
-        ),
-        Happened::Sent {
+    match done {
+        Done::Beacon { at, beacon, heard } => put_beacon(names, *at, *beacon, *heard, buffer, out),
+        Done::Sent {
             at,
             node,
             packet,
             taken,
         } => put_sent(names, *at, *node, packet, *taken, buffer, out),
-        Happened::Silent { at, message } => put_named(
+        Done::Silent { at, message } => put_named(
             *at,
             b" silent ",
             names.message(*message),
             buffer,
             out,
         ),
-        Happened::Started {
-            at,
-            node,
-            task,
-            inputs,
-        } => put_started(names, *at, *node, *task, inputs, buffer, out),
-        Happened::Off { at, node, task } => put_task(
-            names, *at, b" off", *node, *task, buffer, out,
+        Done::Started { at, node, task } => put_started(
+            names, *at, *node, *task, inputs, buffer, out,
         ),
-        Happened::Ended {
+        Done::Off { at, node, task } => put_task(names, *at, b" off", *node, *task, buffer, out),
+        Done::Ended {
             at,
             node,
             task,
             value,
         } => put_ended(names, *at, *node, *task, *value, buffer, out),
-        Happened::Void { at, node, task } => put_task(
-            names, *at, b" void", *node, *task, buffer, out,
-        ),
-        Happened::Requested { at, mode } => put_named(
+        Done::Void { at, node, task } => put_task(names, *at, b" void", *node, *task, buffer, out),
+        Done::Requested { at, mode } => put_named(
             *at,
             b" request ",
             names.mode(*mode as usize),
             buffer,
             out,
         ),
-        Happened::Restarted { at, node } => put_named(
+        Done::Restarted { at, node } => put_named(
             *at,
             b" restart ",
             names.node(*node as usize),

@@ -13,6 +13,7 @@ ghost use Rattle.replayer.specs.Scripts.{plain_line};
 use crate::counts::Counts;
 use crate::tracer::Tracer;
 use app_graph::ModeSet;
+use node_core::Inputs;
 use replay_script::Line;
 use std::alloc::{AllocError, Global};
 use task_body::TaskBody;
@@ -51,9 +52,10 @@ impl From<Failed> for ReplayEnd {
     }
 }
 
-/// Performs an event, and writes its line.
+/// Performs an event, and writes its line. The inputs of a start come in place of others.
 fn perform<S: Sink>(
     event: Event,
+    inputs: &mut Inputs,
     world: &mut World,
     bodies: &mut Vec<Box<dyn TaskBody>>,
     tracer: &mut Tracer<'_>,
@@ -71,8 +73,8 @@ fn perform<S: Sink>(
     ensures sink { OnlyWrites result (S.faults out.old) (S.faults out.new)
         (S.flushes out.old) (S.flushes out.new) }
 {
-    let happened = world.step(event, bodies);
-    tracer.tell(&happened, out)
+    let done = world.step_with(event, bodies, inputs);
+    tracer.tell(&done, inputs, out)
 }
 
 /// Performs so many Advances without loss.
@@ -93,8 +95,9 @@ fn advance<S: Sink>(
     ensures sink { OnlyWrites result (S.faults out.old) (S.faults out.new)
         (S.flushes out.old) (S.flushes out.new) }
 {
+    let mut inputs = Inputs::new();
     for _ in 0..n {
-        perform(Event::Advance(0), world, bodies, tracer, out)?;
+        perform(Event::Advance(0), &mut inputs, world, bodies, tracer, out)?;
     }
     Ok(())
 }
@@ -116,11 +119,12 @@ fn advance_to_beacon<S: Sink>(
     ensures sink { OnlyWrites result (S.faults out.old) (S.faults out.new)
         (S.flushes out.old) (S.flushes out.new) }
 {
+    let mut inputs = Inputs::new();
     for _ in 0..u64::MAX {
         if world.beacon_next() {
             return Ok(());
         }
-        perform(Event::Advance(0), world, bodies, tracer, out)?;
+        perform(Event::Advance(0), &mut inputs, world, bodies, tracer, out)?;
     }
     Ok(())
 }
@@ -148,9 +152,30 @@ fn perform_line<S: Sink>(
     match line {
         Line::Go(n) => advance(n, world, bodies, tracer, out),
         Line::UntilBeacon => advance_to_beacon(world, bodies, tracer, out),
-        Line::Lose(nodes) => perform(Event::Advance(nodes), world, bodies, tracer, out),
-        Line::Request(mode) => perform(Event::Request(mode), world, bodies, tracer, out),
-        Line::Restart(node) => perform(Event::Restart(node), world, bodies, tracer, out),
+        Line::Lose(nodes) => perform(
+            Event::Advance(nodes),
+            &mut Inputs::new(),
+            world,
+            bodies,
+            tracer,
+            out,
+        ),
+        Line::Request(mode) => perform(
+            Event::Request(mode),
+            &mut Inputs::new(),
+            world,
+            bodies,
+            tracer,
+            out,
+        ),
+        Line::Restart(node) => perform(
+            Event::Restart(node),
+            &mut Inputs::new(),
+            world,
+            bodies,
+            tracer,
+            out,
+        ),
     }
 }
 

@@ -7,10 +7,11 @@ ghost use Rattle.replayer.specs.Counting.{HasRoom, counts_of};
 use crate::tracer::Tracer;
 use app_graph::{App, ListOf, Message, Mode, ModeSet, Name, Task};
 use beacon_codec::Beacon;
+use node_core::Inputs;
 use std::alloc::{AllocError, Global};
 use std::test::Fail;
 use ttw_io::{Failed, MemSink};
-use world_core::Happened;
+use world_core::Done;
 
 fn named(alloc: Global, names: &[&str]) -> Result<ListOf<Name>, AllocError> {
     let mut list = Vec::new(alloc);
@@ -82,7 +83,7 @@ fn opening(round: u16) -> Beacon {
 }
 
 /// Tells one thing more to a tracer to which few were told.
-fn tell(tracer: &mut Tracer<'_>, happened: &Happened, out: &mut MemSink) -> Result<(), Failed>
+fn tell(tracer: &mut Tracer<'_>, done: &Done, out: &mut MemSink) -> Result<(), Failed>
     requires few { tracer.old.counts.events < 100 }
     requires room { HasRoom tracer.old.counts }
     requires counted { (hs : List Happened) × (tracer.old.counts ≡ counts_of hs) }
@@ -91,7 +92,7 @@ fn tell(tracer: &mut Tracer<'_>, happened: &Happened, out: &mut MemSink) -> Resu
     ensures room { HasRoom tracer.new.counts }
     ensures counted { (hs : List Happened) × (tracer.new.counts ≡ counts_of hs) }
 {
-    tracer.tell(happened, out)
+    tracer.tell(done, &Inputs::new(), out)
 }
 
 #[test]
@@ -101,21 +102,17 @@ fn lines_of_a_worked_trace(rt: HostRuntime) -> Result<(), Fail> {
     let mut out = MemSink::make(rt.alloc(), 400, 7, Vec::new(rt.alloc()))?;
     tell(
         &mut tracer,
-        &Happened::Beacon {
+        &Done::Beacon {
             at: 0,
             beacon: opening(1),
             heard: 7,
         },
         &mut out,
     )?;
+    tell(&mut tracer, &Done::Silent { at: 0, message: 1 }, &mut out)?;
     tell(
         &mut tracer,
-        &Happened::Silent { at: 0, message: 1 },
-        &mut out,
-    )?;
-    tell(
-        &mut tracer,
-        &Happened::Off {
+        &Done::Off {
             at: 20,
             node: 2,
             task: 2,
@@ -124,7 +121,7 @@ fn lines_of_a_worked_trace(rt: HostRuntime) -> Result<(), Fail> {
     )?;
     tell(
         &mut tracer,
-        &Happened::Void {
+        &Done::Void {
             at: 21,
             node: 2,
             task: 2,
@@ -133,7 +130,7 @@ fn lines_of_a_worked_trace(rt: HostRuntime) -> Result<(), Fail> {
     )?;
     tell(
         &mut tracer,
-        &Happened::Ended {
+        &Done::Ended {
             at: 23,
             node: 1,
             task: 0,
@@ -143,21 +140,17 @@ fn lines_of_a_worked_trace(rt: HostRuntime) -> Result<(), Fail> {
     )?;
     tell(
         &mut tracer,
-        &Happened::Beacon {
+        &Done::Beacon {
             at: 23,
             beacon: opening(2),
             heard: 5,
         },
         &mut out,
     )?;
+    tell(&mut tracer, &Done::Silent { at: 23, message: 0 }, &mut out)?;
     tell(
         &mut tracer,
-        &Happened::Silent { at: 23, message: 0 },
-        &mut out,
-    )?;
-    tell(
-        &mut tracer,
-        &Happened::Ended {
+        &Done::Ended {
             at: 48,
             node: 0,
             task: 1,
@@ -165,16 +158,8 @@ fn lines_of_a_worked_trace(rt: HostRuntime) -> Result<(), Fail> {
         },
         &mut out,
     )?;
-    tell(
-        &mut tracer,
-        &Happened::Requested { at: 48, mode: 0 },
-        &mut out,
-    )?;
-    tell(
-        &mut tracer,
-        &Happened::Restarted { at: 48, node: 2 },
-        &mut out,
-    )?;
+    tell(&mut tracer, &Done::Requested { at: 48, mode: 0 }, &mut out)?;
+    tell(&mut tracer, &Done::Restarted { at: 48, node: 2 }, &mut out)?;
     tracer.done(&mut out)?;
     assert_eq!(rt;
         out.bytes(),

@@ -1,4 +1,5 @@
 pub mod Asked
+pub mod DoneWhole
 pub mod DueLemmas
 pub mod EntryLists
 pub mod TaskLemmas

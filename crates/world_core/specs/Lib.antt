@@ -1,4 +1,6 @@
 pub mod Cycle
+pub mod Done
+pub mod DoneSteps
 pub mod Due
 pub mod NodeStates
 pub mod Nodes

@@ -1,5 +1,8 @@
 //! Events of a world, and what each of them did.
 
+ghost use Rattle.std.specs.Prelude.{◌≡◌};
+ghost use Rattle.world_core.specs.Done.{whole};
+
 use beacon_codec::Beacon;
 use node_core::{Inputs, Packet};
 use tick_num::Time;
@@ -75,4 +78,107 @@ pub enum Happened {
         at: Time,
         node: u32,
     },
+}
+
+/// What an event did, as in `Happened`. The inputs of a start stand apart, so that no large value is
+/// moved on the way.
+#[derive(Drop)]
+pub enum Done {
+    /// The host sent a beacon, which these nodes heard.
+    Beacon {
+        at: Time,
+        beacon: Beacon,
+        heard: u64,
+    },
+    /// The node sent the packet in a slot, and these nodes took it.
+    Sent {
+        at: Time,
+        node: u32,
+        packet: Packet,
+        taken: u64,
+    },
+    /// Nobody sent in the slot of this message.
+    Silent {
+        at: Time,
+        message: u32,
+    },
+    /// The node started the task.
+    Started {
+        at: Time,
+        node: u32,
+        task: u32,
+    },
+    /// The node did not start the task.
+    Off {
+        at: Time,
+        node: u32,
+        task: u32,
+    },
+    /// The run of the task ended with this value.
+    Ended {
+        at: Time,
+        node: u32,
+        task: u32,
+        value: i64,
+    },
+    /// No run of the task was in progress at its end.
+    Void {
+        at: Time,
+        node: u32,
+        task: u32,
+    },
+    /// The mode was requested.
+    Requested {
+        at: Time,
+        mode: u32,
+    },
+    /// The node restarted.
+    Restarted {
+        at: Time,
+        node: u32,
+    },
+}
+
+impl Done {
+    /// What happened, where a start had these inputs.
+    pub fn with(self, inputs: Inputs) -> Happened
+        ensures { result ≡ whole self inputs }
+    {
+        match self {
+            Done::Beacon { at, beacon, heard } => Happened::Beacon { at, beacon, heard },
+            Done::Sent {
+                at,
+                node,
+                packet,
+                taken,
+            } => Happened::Sent {
+                at,
+                node,
+                packet,
+                taken,
+            },
+            Done::Silent { at, message } => Happened::Silent { at, message },
+            Done::Started { at, node, task } => Happened::Started {
+                at,
+                node,
+                task,
+                inputs,
+            },
+            Done::Off { at, node, task } => Happened::Off { at, node, task },
+            Done::Ended {
+                at,
+                node,
+                task,
+                value,
+            } => Happened::Ended {
+                at,
+                node,
+                task,
+                value,
+            },
+            Done::Void { at, node, task } => Happened::Void { at, node, task },
+            Done::Requested { at, mode } => Happened::Requested { at, mode },
+            Done::Restarted { at, node } => Happened::Restarted { at, node },
+        }
+    }
 }

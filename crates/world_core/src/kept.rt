@@ -3,20 +3,22 @@
 ghost use Rattle.std.specs.Prelude.{◌≡◌, ◌≤◌, ◌<◌, [], All, fold, length, map, pos, true, ◌+ℤ◌, ◌-ℤ◌, ◌≤ℤ◌};
 ghost use Rattle.sched_model.specs.Numbers.{below};
 ghost use Rattle.world_core.specs.declared.cycle.Action.TheVariants.{Slot, Start};
-ghost use Rattle.world_core.specs.declared.happened.Happened.TheVariants.{Beacon as Beaconed, Requested, Restarted};
+ghost use Rattle.world_core.specs.declared.happened.Done.TheVariants.{Beacon as Beaconed, Requested, Restarted};
+ghost use Rattle.world_core.specs.DoneSteps.{advance_done, end_done, entry_done, inputs_advanced, inputs_performed};
 ghost use Rattle.world_core.specs.Happened.{bits_of};
 ghost use Rattle.world_core.specs.Nodes.{AllMayBeTold, all_told, hearers};
 ghost use Rattle.world_core.specs.NodeStates.{after_end, value_now};
 ghost use Rattle.world_core.specs.Worlds.{cycle_at, node_at};
-ghost use Rattle.world_core.specs.WorldSteps.{MayAdvance, MayCome, MayMove, MayPerform, MayTurn, advance_told, advanced, after_request, arrived, beacon_now, bodies_advanced, bodies_performed, bodies_reset, end_told, host_at_beacon, is_over, mode_of, moved, next_begin, next_entry, node_restarted, opens, performed, reset_one, told, turned, with_node};
+ghost use Rattle.world_core.specs.WorldSteps.{MayAdvance, MayCome, MayMove, MayPerform, MayTurn, advanced, after_request, arrived, beacon_now, bodies_advanced, bodies_performed, bodies_reset, host_at_beacon, is_over, mode_of, moved, next_begin, next_entry, node_restarted, opens, performed, reset_one, turned, with_node};
 
 use crate::cycle::{Action, Entry};
-use crate::happened::Happened;
+use crate::happened::Done;
 use crate::medium;
 use crate::node::Node;
 use app_graph::ListOf;
 use beacon_codec::Beacon;
 use mode_change::Host;
+use node_core::Inputs;
 use std::marker::Model;
 use task_body::TaskBody;
 use tick_num::Time;
@@ -59,11 +61,17 @@ impl Model for Kept {
 }
 
 impl Kept {
-    /// Performs the next entry, which these nodes lose.
-    pub(crate) fn advance(&mut self, lost: u64, bodies: &mut Vec<Box<dyn TaskBody>>) -> Happened
+    /// Performs the next entry, which these nodes lose. The inputs of a start come in place of others.
+    pub(crate) fn advance(
+        &mut self,
+        lost: u64,
+        bodies: &mut Vec<Box<dyn TaskBody>>,
+        inputs: &mut Inputs,
+    ) -> Done
         requires { MayAdvance self.old (length bodies.old.items) lost }
 
-        ensures answer { result ≡ advance_told self.old lost }
+        ensures answer { result ≡ advance_done self.old lost }
+        ensures inputs { inputs.new ≡ inputs_advanced self.old inputs.old }
         ensures state { self.new ≡ advanced self.old (map seen bodies.old.items) lost }
         ensures bodies { map seen bodies.new.items
             ≡ bodies_advanced self.old (map seen bodies.old.items) }
@@ -71,7 +79,7 @@ impl Kept {
         self.arrive();
         let entry = self.next_entry();
         self.go_to(self.moment_of(entry.tick));
-        self.perform(entry.action, lost, bodies)
+        self.perform(entry.action, lost, bodies, inputs)
     }
 
     /// The tick of the last Advance.
@@ -180,11 +188,13 @@ impl Kept {
         action: Action,
         lost: u64,
         bodies: &mut Vec<Box<dyn TaskBody>>,
-    ) -> Happened
+        inputs: &mut Inputs,
+    ) -> Done
         requires few { length self.old.nodes ≤ 64 }
         requires may { MayPerform self.old (length bodies.old.items) lost action }
 
-        ensures answer { result ≡ told self.old lost action }
+        ensures answer { result ≡ entry_done self.old lost action }
+        ensures inputs { inputs.new ≡ inputs_performed self.old action inputs.old }
         ensures state { self.new ≡ performed self.old (map seen bodies.old.items) lost action }
         ensures bodies { map seen bodies.new.items
             ≡ bodies_performed self.old (map seen bodies.old.items) action }
@@ -193,28 +203,28 @@ impl Kept {
             Action::End { node, task } => self.end(node, task),
             Action::Beacon { .. } => self.beacon(lost),
             Action::Slot { slot, message } => self.slot(slot, message, lost),
-            Action::Start { node, task } => self.start(node, task, bodies),
+            Action::Start { node, task } => self.start(node, task, bodies, inputs),
         }
     }
 
     /// The end of a task.
-    fn end(&mut self, node: u32, task: u32) -> Happened
+    fn end(&mut self, node: u32, task: u32) -> Done
         requires node { node < length self.old.nodes }
         requires task { task < 1024 }
         ensures answer { result
-            ≡ end_told self.old.moment node task (value_now (node_at self.old node) task) }
+            ≡ end_done self.old.moment node task (value_now (node_at self.old node) task) }
         ensures state { self.new
             ≡ with_node self.old node (after_end (node_at self.old node) task) }
     {
         let at = self.moment;
         match self.nodes[node as usize].end(task) {
-            Some(value) => Happened::Ended {
+            Some(value) => Done::Ended {
                 at,
                 node,
                 task,
                 value,
             },
-            None => Happened::Void { at, node, task },
+            None => Done::Void { at, node, task },
         }
     }
 
@@ -230,7 +240,7 @@ impl Kept {
     }
 
     /// The beacon of the next round.
-    fn beacon(&mut self, lost: u64) -> Happened
+    fn beacon(&mut self, lost: u64) -> Done
         requires few { length self.old.nodes ≤ 64 }
         requires told { AllMayBeTold self.old.nodes (beacon_now self.old) lost self.old.host_node }
         ensures answer { result ≡ Beaconed self.old.moment (beacon_now self.old)
@@ -242,7 +252,7 @@ impl Kept {
     {
         let beacon = self.open_round();
         let heard = medium::tell(&mut self.nodes, beacon, lost, self.host_node as usize);
-        Happened::Beacon {
+        Done::Beacon {
             at: self.moment,
             beacon,
             heard,
@@ -250,10 +260,10 @@ impl Kept {
     }
 
     /// A slot with a message.
-    fn slot(&mut self, slot: u8, message: u32, lost: u64) -> Happened
+    fn slot(&mut self, slot: u8, message: u32, lost: u64) -> Done
         requires few { length self.old.nodes ≤ 64 }
         requires may { MayPerform self.old 0 lost (Slot slot message) }
-        ensures answer { result ≡ told self.old lost (Slot slot message) }
+        ensures answer { result ≡ entry_done self.old lost (Slot slot message) }
         ensures state { self.new ≡ performed self.old [] lost (Slot slot message) }
     {
         let at = self.moment;
@@ -266,21 +276,28 @@ impl Kept {
                     lost,
                     sending.node,
                 );
-                Happened::Sent {
+                Done::Sent {
                     at,
                     node: sending.node as u32,
                     packet: sending.packet,
                     taken,
                 }
             }
-            None => Happened::Silent { at, message },
+            None => Done::Silent { at, message },
         }
     }
 
     /// The start of a task.
-    fn start(&mut self, node: u32, task: u32, bodies: &mut Vec<Box<dyn TaskBody>>) -> Happened
+    fn start(
+        &mut self,
+        node: u32,
+        task: u32,
+        bodies: &mut Vec<Box<dyn TaskBody>>,
+        inputs: &mut Inputs,
+    ) -> Done
         requires { MayPerform self.old (length bodies.old.items) 0 (Start node task) }
-        ensures answer { result ≡ told self.old 0 (Start node task) }
+        ensures answer { result ≡ entry_done self.old 0 (Start node task) }
+        ensures inputs { inputs.new ≡ inputs_performed self.old (Start node task) inputs.old }
         ensures state { self.new
             ≡ performed self.old (map seen bodies.old.items) 0 (Start node task) }
         ensures bodies { map seen bodies.new.items
@@ -288,32 +305,28 @@ impl Kept {
     {
         let at = self.moment;
         let place = self.places[task as usize];
-        match self.nodes[node as usize].start(task, bodies[place].as_mut()) {
-            Some(inputs) => Happened::Started {
-                at,
-                node,
-                task,
-                inputs,
-            },
-            None => Happened::Off { at, node, task },
+        if self.nodes[node as usize].start(task, bodies[place].as_mut(), inputs) {
+            Done::Started { at, node, task }
+        } else {
+            Done::Off { at, node, task }
         }
     }
 
     /// Asks for a change to a mode.
-    pub(crate) fn request(&mut self, mode: u32) -> Happened
+    pub(crate) fn request(&mut self, mode: u32) -> Done
         requires { mode < length self.old.host.rounds }
         ensures answer { result ≡ Requested self.old.moment mode }
         ensures state { self.new ≡ after_request self.old mode }
     {
         self.host.request(mode);
-        Happened::Requested {
+        Done::Requested {
             at: self.moment,
             mode,
         }
     }
 
     /// Restarts a node, and resets the bodies of its tasks, by their numbers.
-    pub(crate) fn restart(&mut self, node: u32, bodies: &mut Vec<Box<dyn TaskBody>>) -> Happened
+    pub(crate) fn restart(&mut self, node: u32, bodies: &mut Vec<Box<dyn TaskBody>>) -> Done
         requires node { node < length self.old.nodes }
         requires tasks { length self.old.owners ≤ 1024 }
         requires each { length self.old.places ≡ length self.old.owners }
@@ -325,7 +338,7 @@ impl Kept {
     {
         self.nodes[node as usize].restart();
         reset(&self.owners, &self.places, node, bodies);
-        Happened::Restarted {
+        Done::Restarted {
             at: self.moment,
             node,
         }

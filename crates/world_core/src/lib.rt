@@ -20,5 +20,5 @@ mod tests;
 mod world;
 
 pub use bodies::missing_body;
-pub use happened::{Event, Happened};
+pub use happened::{Done, Event, Happened};
 pub use world::World;

@@ -1,6 +1,6 @@
 //! A node in whichever state it is, changed in place.
 
-ghost use Rattle.std.specs.Prelude.{◌≡◌, ◌<◌, ◌&&◌, Some, None, cond};
+ghost use Rattle.std.specs.Prelude.{◌≡◌, ◌<◌, ◌&&◌, cond};
 ghost use Rattle.world_core.specs.declared.state.State.TheVariants.{Listens};
 ghost use Rattle.world_core.specs.NodeStates.{MayHearNow, MayMissNow, MayPassNow, MayReceiveNow, MayStartNow, MayUseSlotNow, after_beacon, after_end, after_missed, after_packet, after_restart, after_start, after_ticks, inputs_at_start, sent_now, starts_now, takes_now, value_now};
 ghost use Rattle.world_core.specs.Nodes.{MayHearOrMiss, heard_or_missed};
@@ -47,6 +47,10 @@ impl Node {
         requires { MayHearNow self.old b }
         ensures { self.new ≡ after_beacon self.old b }
     {
+        if let Some(State::Syncs(node)) = &mut self.state {
+            node.hear_on(b);
+            return;
+        }
         if let Some(state) = self.state.take() {
             self.state = Some(state.hear(b));
         }
@@ -131,21 +135,23 @@ impl Node {
         }
     }
 
-    /// Starts a task, where its start is placed: the body is fired. Answers the inputs.
-    pub(crate) fn start(&mut self, task: u32, body: &mut dyn TaskBody) -> Option<Inputs>
+    /// Starts a task, where its start is placed: the body is fired. Answers whether it started, and then
+    /// puts its inputs in place of others.
+    pub(crate) fn start(&mut self, task: u32, body: &mut dyn TaskBody, inputs: &mut Inputs) -> bool
         requires { MayStartNow self.old task }
 
-        ensures inputs { result
-            ≡ cond (starts_now self.old task) (Some (inputs_at_start self.old task)) None }
+        ensures answer { result ≡ starts_now self.old task }
+        ensures inputs { inputs.new
+            ≡ cond (starts_now self.old task) (inputs_at_start self.old task) inputs.old }
         ensures state { self.new ≡ after_start self.old task
             (answer_of (seen body.old) task (inputs_at_start self.old task)) }
         ensures body { seen body.new ≡ cond (starts_now self.old task)
             (fired (seen body.old) task (inputs_at_start self.old task)) (seen body.old) }
     {
         match &mut self.state {
-            Some(State::Syncs(node)) => node.start(task, body),
-            Some(State::Coasts(node)) => node.start(task, body),
-            Some(State::Listens(_)) | None => None,
+            Some(State::Syncs(node)) => node.start_with(task, body, inputs),
+            Some(State::Coasts(node)) => node.start_with(task, body, inputs),
+            Some(State::Listens(_)) | None => false,
         }
     }
 

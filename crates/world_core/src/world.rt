@@ -4,16 +4,18 @@ ghost use Rattle.std.specs.Prelude.{◌≡◌, ◌<◌, ◌≤ℤ◌, [], All, I
 ghost use Rattle.app_graph.specs.Validation.{KeepsRules};
 ghost use Rattle.runtime_model.specs.Plans.{AreSchedules};
 ghost use Rattle.world_core.specs.Asking.{IsAsked};
+ghost use Rattle.world_core.specs.Done.{whole};
 ghost use Rattle.world_core.specs.KeptWorlds.{MayHappen};
 ghost use Rattle.world_core.specs.NextBeacons.{TellsNext};
 ghost use Rattle.world_core.specs.StandsFor.{HaveBodies, StandsFor};
 ghost use Rattle.world_core.specs.WorldGoesOn.{GoesOn};
 ghost use Rattle.world_core.specs.WorldKeeps.{StaysSame};
 
-use crate::happened::{Event, Happened};
+use crate::happened::{Done, Event, Happened};
 use crate::kept::Kept;
 use crate::make::make_kept;
 use app_graph::ModeSet;
+use node_core::Inputs;
 use sched_model::Schedule;
 use std::alloc::{AllocError, Global};
 use std::marker::Model;
@@ -91,8 +93,32 @@ impl World {
         ensures same { StaysSame self.old self.new }
         ensures count { length bodies.new.items ≡ length bodies.old.items }
     {
+        let mut inputs = Inputs::new();
+        let done = self.step_with(event, bodies, &mut inputs);
+        done.with(inputs)
+    }
+
+    /// Performs one event as `step` does, without moving inputs: those of a start come in place of
+    /// the ones that are handed in.
+    pub fn step_with(
+        &mut self,
+        event: Event,
+        bodies: &mut Vec<Box<dyn TaskBody>>,
+        inputs: &mut Inputs,
+    ) -> Done
+        requires time { self.old.moment ≤ℤ pos 9000000000000000000 }
+        requires event { MayHappen self.old event }
+        requires bodies { All (λ b. b < length bodies.old.items) self.old.places }
+
+        ensures goes_on { GoesOn self.old (map seen bodies.old.items) self.new (map seen bodies.new.items)
+            event (whole result inputs.new) }
+        ensures asked { IsAsked self.old (whole result inputs.new) }
+
+        ensures same { StaysSame self.old self.new }
+        ensures count { length bodies.new.items ≡ length bodies.old.items }
+    {
         match event {
-            Event::Advance(lost) => self.kept.advance(lost, bodies),
+            Event::Advance(lost) => self.kept.advance(lost, bodies, inputs),
             Event::Request(mode) => self.kept.request(mode),
             Event::Restart(node) => self.kept.restart(node, bodies),
         }
