@@ -1,6 +1,6 @@
 //! A buffer before a sink, so that many short texts need few writes.
 
-ghost use Rattle.std.specs.Prelude.{◌≡◌, ◌≤◌, IfOk, OnErr, OnOk, [], vec_capacity, vec_len};
+ghost use Rattle.std.specs.Prelude.{◌≡◌, ◌+◌, ◌<◌, ◌≤◌, IfOk, OnErr, OnOk, [], length, vec_capacity, vec_len};
 ghost use Rattle.std.specs.Io.KnownBytes.{append_known};
 ghost use Rattle.std.specs.List.{flat_map};
 ghost use Rattle.ttw_io.specs.Buffering.{HasPut, HeldBack, OnlyWrites, WritesAtNeed};
@@ -56,6 +56,7 @@ impl Buffer {
     /// Puts a text behind the bytes that it holds. Where there is no room for it, those bytes are
     /// written first, and a text that is longer than the whole room is then written too. Nothing is
     /// written otherwise.
+    #[inline]
     pub fn put<S: Sink>(&mut self, text: &[u8], out: &mut S) -> Result<(), Failed>
         ensures put { HasPut result (S.held out.old) (S.held out.new) self.old self.new text.now }
         ensures at_need { WritesAtNeed result
@@ -68,6 +69,22 @@ impl Buffer {
             self.bytes.extend_from_slice(text).unwrap();
             return Ok(());
         }
+        self.put_over(text, out)
+    }
+
+    /// Puts a text for which there is no room beside the bytes that it holds.
+    #[cold]
+    #[inline(never)]
+    fn put_over<S: Sink>(&mut self, text: &[u8], out: &mut S) -> Result<(), Failed>
+        requires { self.old.room < length self.old.bytes + length text.now }
+
+        ensures put { HasPut result (S.held out.old) (S.held out.new) self.old self.new text.now }
+        ensures at_need { WritesAtNeed result
+            (S.held out.old) (S.held out.new) self.old self.new text.now }
+
+        ensures sink { OnlyWrites result (S.faults out.old) (S.faults out.new)
+            (S.flushes out.old) (S.flushes out.new) }
+    {
         self.empty(out)?;
         if text.len() <= self.room {
             self.bytes.extend_from_slice(text).unwrap();
@@ -77,6 +94,7 @@ impl Buffer {
     }
 
     /// Puts texts, one behind the other, as `put` does with each.
+    #[inline]
     pub fn put_all<S: Sink>(&mut self, texts: &[&[u8]], out: &mut S) -> Result<(), Failed>
         ensures put { HasPut result (S.held out.old) (S.held out.new)
             self.old self.new (flat_map (λ t. t.now) texts.now) }

@@ -5,11 +5,11 @@ use Rattle.ttw_io.specs.Buffering.{HeldBack}
 use Rattle.ttw_io.specs.Outside.{AddsFront}
 use Rattle.ttw_io.proofs.WritingLemmas.{append_known-append_known}
 use Rattle.ttw_io.proofs.BufferLemmas.{front_through, left_through, puts_through, written_through}
-use Rattle.ttw_io.proofs.buffer.Buffer.put.Goals as goal
+use Rattle.ttw_io.proofs.buffer.Buffer.put_over.Goals as goal
 
 pub returns-clause-put : goal.returns-clause-put
 returns-clause-put g c =
-    let long : c.args.self.now.room < length c.args.text.now = omega (arith, c.if-text-self-2.false, ap (λ (b : HeldBack). b.room) c.self-2.view_is, c.in_ok-empty.ensures.room) in
+    let long : c.args.self.now.room < length c.args.text.now = omega (arith, c.if-text-self.false, ap (λ (b : HeldBack). b.room) c.self.view_is, c.in_ok-empty.ensures.room) in
     record {
       ok = on_ok_weaker c.write_all.result (λ added. puts_through _ _ _ c.args.self.now _ c.args.text.now long c.in_ok-empty.ensures.ok added c.in_ok-empty.ensures.none_left) c.write_all.ensures.ok;
       err = on_err_weaker c.write_all.result (λ front. front_through _ _ _ c.args.self.now.bytes c.args.text.now c.in_ok-empty.ensures.ok front) c.write_all.ensures.err;
@@ -18,7 +18,7 @@ returns-clause-put g c =
 
 pub returns-clause-at_need : goal.returns-clause-at_need
 returns-clause-at_need g c =
-    let long : c.args.self.now.room < length c.args.text.now = omega (arith, c.if-text-self-2.false, ap (λ (b : HeldBack). b.room) c.self-2.view_is, c.in_ok-empty.ensures.room) in
+    let long : c.args.self.now.room < length c.args.text.now = omega (arith, c.if-text-self.false, ap (λ (b : HeldBack). b.room) c.self.view_is, c.in_ok-empty.ensures.room) in
     let whole = written_through c.args.self.now c.args.text.now long in
     let both = append_known-append_known _ c.args.self.now.bytes c.args.text.now in
     record {
