@@ -10,3 +10,5 @@ pub mod Modes
 pub mod DocumentLaws
 pub mod CutLines
 pub mod Unread
+pub mod Machines
+pub mod FileLines

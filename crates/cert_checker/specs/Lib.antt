@@ -5,3 +5,5 @@ pub mod DraftReading
 pub mod ModeReading
 pub mod DocumentStages
 pub mod DocumentLines
+pub mod Machine
+pub mod FileChecking

@@ -8,9 +8,8 @@ ghost use Rattle.proof_tree.specs.Fewest.{IsBest};
 ghost use Rattle.proof_tree.specs.Refusing.{Refuses};
 ghost use Rattle.cert_checker.specs.Refusals.{said};
 
-use crate::reader::read_line;
+use crate::checker::Checker;
 use crate::refused::Refused;
-use crate::stages::Stage;
 use app_graph::{ListOf, ModeSet};
 use proof_tree::laws::accepted_are_best;
 use sched_model::Schedule;
@@ -33,21 +32,12 @@ pub fn check(alloc: Global, set: &ModeSet, text: &[u8]) -> Result<Accepted, Refu
     ensures best { IfOk result (λ a. AllZip IsBest (doc_modes set.now) a.modes) }
     ensures refused { IfErr result (λ e. IfSome (said e) (λ f. Refuses set.now text.now f)) }
 {
-    let mut plans = Vec::new(alloc);
-    let mut stage = Stage::Head;
+    let mut checker = Checker::begin(alloc);
     let mut from = 0;
-    let mut line = 1;
     while let Some((bytes, next)) = cut(text, from) {
-        let item = read_line(bytes, next, line)?;
-        stage = stage.take(alloc, set, &mut plans, line, &item)?;
+        checker = checker.take(alloc, set, bytes)?;
         from = next;
-        line += 1;
-    }
-    if !stage.is_end() {
-        return Err(Refused::Grammar(line));
     }
     accepted_are_best();
-    Ok(Accepted {
-        modes: ListOf::from_vec(plans),
-    })
+    checker.end()
 }

@@ -3,12 +3,13 @@
 ghost use Rattle.std.specs.Prelude.{IfOk};
 ghost use Rattle.app_graph.specs.Validation.{KeepsRules};
 
-use crate::{Accepted, Refused, check};
+use crate::{Accepted, CheckEnd, Refused, check, check_from};
 use app_graph::{
     GraphFault, ListOf, ModeSet, Name, RawApp, RawMessage, RawMode, RawSet, RawTask, validate,
 };
 use std::alloc::{AllocError, Global};
 use std::test::Fail;
+use ttw_io::MemFiles;
 
 /// An application: its name, its period, which is its deadline, its tasks with node and wcet, and its messages from one task to one.
 #[derive(Clone, Copy, Drop)]
@@ -155,7 +156,10 @@ const LOOP_LINES: [&str; 20] = [
 enum Verdict {
     Accepted(usize, Option<usize>),
     Refused(Refused),
+    ReadFault,
     NoSet,
+    /// The text and a file with it have other answers, or there was no memory for the file.
+    Differ,
 }
 
 /// How many modes are accepted, and the rounds of the first.
@@ -168,12 +172,39 @@ fn said(accepted: &Accepted) -> Verdict {
     Verdict::Accepted(modes.len(), rounds)
 }
 
+/// The answer to a file with this text, of which the reads of these numbers fail.
+fn answer_of_file(
+    alloc: Global,
+    set: &ModeSet,
+    text: &[u8],
+    fail: Vec<u64>,
+) -> Result<Verdict, AllocError>
+    requires { KeepsRules set.now }
+{
+    let mut list = Vec::new(alloc);
+    list.push((
+        String::from_str(alloc, "plan")?,
+        Vec::from_slice(alloc, text)?,
+    ))?;
+    let mut files = MemFiles::make(list, fail);
+    Ok(match check_from(alloc, set, &mut files, "plan") {
+        Ok(accepted) => said(&accepted),
+        Err(CheckEnd::Refused(refused)) => Verdict::Refused(refused),
+        Err(CheckEnd::ReadFault) => Verdict::ReadFault,
+    })
+}
+
+/// The answer to a text, where a file with it has the same.
 fn answer_on(alloc: Global, set: &ModeSet, text: &[u8]) -> Verdict
     requires { KeepsRules set.now }
 {
-    match check(alloc, set, text) {
+    let of_text = match check(alloc, set, text) {
         Ok(accepted) => said(&accepted),
         Err(refused) => Verdict::Refused(refused),
+    };
+    match answer_of_file(alloc, set, text, Vec::new(alloc)) {
+        Ok(of_file) if of_file == of_text => of_text,
+        _ => Verdict::Differ,
     }
 }
 
@@ -270,6 +301,50 @@ fn check_accepts_and_bad_leaf(rt: HostRuntime) -> Result<(), Fail> {
         answer(alloc, &LOOP, wrong.as_slice()),
         Verdict::Refused(Refused::BadLeaf(5))
     );
+    Ok(())
+}
+
+/// The answer to a file with a document of the control loop, where this read fails.
+fn with_failing_read(alloc: Global, text: &[u8], call: u64) -> Result<Verdict, AllocError> {
+    let mut fail = Vec::new(alloc);
+    fail.push(call)?;
+    match set_of(alloc, &LOOP) {
+        Ok(set) => answer_of_file(alloc, &set, text, fail),
+        Err(_) => Ok(Verdict::NoSet),
+    }
+}
+
+#[test]
+fn refused_before_failing_read(rt: HostRuntime) -> Result<(), Fail> {
+    let alloc = rt.alloc();
+    // More bytes than one read gives. The third read of the right document is not made.
+    let mut wrong = edited(alloc, &LOOP_LINES, Edit::Put(5, "cycle 17 2 7"))?;
+    for _line in 0..20000 {
+        add(&mut wrong, "end")?;
+    }
+    let right = edited(alloc, &LOOP_LINES, Edit::Cut(20))?;
+    let bad_leaf = Verdict::Refused(Refused::BadLeaf(5));
+    for (call, of_wrong, of_right) in [
+        (1, Verdict::ReadFault, Verdict::ReadFault),
+        (2, bad_leaf, Verdict::ReadFault),
+        (3, bad_leaf, Verdict::Accepted(1, Some(2))),
+    ] {
+        assert_eq!(rt; with_failing_read(alloc, wrong.as_slice(), call)?, of_wrong);
+        assert_eq!(rt; with_failing_read(alloc, right.as_slice(), call)?, of_right);
+    }
+    Ok(())
+}
+
+#[test]
+fn lines_after_end(rt: HostRuntime) -> Result<(), Fail> {
+    let alloc = rt.alloc();
+    let mut text = edited(alloc, &LOOP_LINES, Edit::Cut(20))?;
+    for _line in 0..20000 {
+        add(&mut text, "end")?;
+    }
+    let verdict = Verdict::Refused(Refused::Grammar(21));
+    assert_eq!(rt; answer(alloc, &LOOP, text.as_slice()), verdict);
+    assert_eq!(rt; with_failing_read(alloc, text.as_slice(), 2)?, verdict);
     Ok(())
 }
 
