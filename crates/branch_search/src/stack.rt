@@ -1,27 +1,7 @@
 //! The stack of a search: the choices of the prefix that is due, and the greatest alternative at each of them.
 
-ghost use Rattle.std.specs.Prelude.{◌≡◌, ◌<◌, ◌+ℤ◌, length, int_lt, true, pos};
-ghost use Rattle.branch_search.specs.Stacks.{at_, next_due, StepIs};
-
-fn choice_at(choices: &[i64], k: usize) -> i64
-    requires { k < length choices.now }
-    ensures { result ≡ at_ choices.now k }
-{
-    choices[k]
-}
-
-fn is_less(a: i64, b: i64) -> bool
-    ensures { result ≡ int_lt a b }
-{
-    a < b
-}
-
-fn next_of(a: i64, most: i64) -> i64
-    requires { int_lt a most ≡ true }
-    ensures { result ≡ a +ℤ pos 1 }
-{
-    a + 1
-}
+ghost use Rattle.std.specs.Prelude.{◌≡◌, length};
+ghost use Rattle.branch_search.specs.Stacks.{next_due, StepIs};
 
 /// Goes to the next prefix once all that begins with this one is done, if there is one.
 pub(crate) fn advance(chosen: &mut Vec<i64>, greatest: &mut Vec<i64>) -> bool
@@ -31,10 +11,10 @@ pub(crate) fn advance(chosen: &mut Vec<i64>, greatest: &mut Vec<i64>) -> bool
 {
     while chosen.len() > 0 {
         let top = chosen.len() - 1;
-        let last = choice_at(chosen.as_slice(), top);
-        let most = choice_at(greatest.as_slice(), top);
-        if is_less(last, most) {
-            chosen[top] = next_of(last, most);
+        let last = chosen[top];
+        let most = greatest[top];
+        if last < most {
+            chosen[top] = last + 1;
             return true;
         }
         chosen.truncate(top);
