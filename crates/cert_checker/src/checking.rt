@@ -25,7 +25,7 @@ pub struct Accepted {
 
 /// Reads a plan document line by line and tests it against the mode set. It is accepted exactly where it has the grammar, every schedule is right, and
 /// valid trees show that no mode has a schedule of fewer rounds, or none where it says so. Otherwise the answer is the first refused line and why.
-/// docs/PROOFS.md states what is accepted. Memory is taken for the schedules and for one tree's choices, and not for each line.
+/// docs/PLAN_DOCUMENT.md states what is accepted. Memory is taken for the schedules and for one tree's choices, and not for each line.
 pub fn check(alloc: Global, set: &ModeSet, text: &[u8]) -> Result<Accepted, Refused>
     requires { KeepsRules set.now }
     ensures accepted { IfOk result (λ a. Accepts set.now text.now a.modes) }
