@@ -62,8 +62,7 @@ of_file D k missing s t d = absurd d
 of_file D k (file bytes) s t d = k bytes s t d
 
 of_plan : (set : ModeSet) (D : List (Option Schedule) → Status → List ℕ → Type 0) → ((plans : List (Option Schedule)) (s : Status) (t : List ℕ) → D plans s t → IsAnswered s) → (bytes : List ℕ) (s : Status) (t : List ℕ) → OfPlan set D bytes s t → IsAnswered s
-of_plan set D k bytes s t (inl (inl (long, es, et))) = answered s Plan es refused_plan
-of_plan set D k bytes s t (inl (inr (short, (refusal, refuses, es, et)))) = answered s Plan es refused_plan
+of_plan set D k bytes s t (inl (refusal, refuses, es, et)) = answered s Plan es refused_plan
 of_plan set D k bytes s t (inr (plans, accepted, d)) = k plans s t d
 
 of_schedules : (set : ModeSet) (D : List Schedule → Status → List ℕ → Type 0) → ((schedules : List Schedule) (s : Status) (t : List ℕ) → D schedules s t → IsAnswered s) → (plans : List (Option Schedule)) (s : Status) (t : List ℕ) → OfSchedules set D plans s t → IsAnswered s

@@ -45,7 +45,7 @@ use Rattle.replayer.proofs.Lengths.{scripts_are_short}
 use Rattle.ttw_program.specs.Commands.{Command}
 use Rattle.ttw_program.specs.Due.{OfCommand, OfSet, PlanDue}
 use Rattle.ttw_program.specs.Headline.{HasFewest, HasOneSender, Headline, IsCertified, IsSafeReplay, PlanHolds, ReplayHolds}
-use Rattle.ttw_program.specs.PlanFiles.{IsRefused, OfPlan, OfSchedules, most_plan_bytes}
+use Rattle.ttw_program.specs.PlanFiles.{IsRefused, OfPlan, OfSchedules}
 use Rattle.ttw_program.specs.Plans.{SpendsFirst}
 use Rattle.ttw_program.specs.Replays.{IsTrace, ReplayDue, TraceDue}
 use Rattle.ttw_program.specs.ScriptFiles.{OfScript}
@@ -84,9 +84,8 @@ not_refused set bytes p f keeps a b = elim (one_answers set bytes keeps) [
   | inr x ↦ x.1 p a
 ]
 
-pub taken : (set : ModeSet) (bytes : List ℕ) (p : List (Option Schedule)) → KeepsRules set → Accepts set bytes p → length bytes ≤ most_plan_bytes → (s : Status) (t : List ℕ) → IsRefused set bytes s t → ⊥
-taken set bytes p keeps a few s t (inl (long, es, et)) = omega (arith, long, few)
-taken set bytes p keeps a few s t (inr (short, (f, b, es, et))) = not_refused set bytes p f keeps a b
+pub taken : (set : ModeSet) (bytes : List ℕ) (p : List (Option Schedule)) → KeepsRules set → Accepts set bytes p → (s : Status) (t : List ℕ) → IsRefused set bytes s t → ⊥
+taken set bytes p keeps a s t (f, b, es, et) = not_refused set bytes p f keeps a b
 
 fewest : (ds : List DocMode) (plans : List (Option Schedule)) → AllZip IsRight ds plans → AllZip IsBest ds plans → AllZip HasFewest ds plans
 fewest [] [] right best = tt
@@ -111,7 +110,7 @@ of_plan set budget s t keeps (inl (parts, all, es, et, own)) =
         fewest = fewest (doc_modes set) own.plans own.accepted.right best;
         accepted = own.accepted;
         no_other = λ others a. accepted_once set t others own.plans keeps a own.accepted;
-        checked = λ short. inr (own.plans, (short, own.accepted, best), (refl, refl));
+        checked = inr (own.plans, (own.accepted, best), (refl, refl));
         taken = taken set t own.plans keeps own.accepted;
         within = within_parts set budget set.modes parts all;
       },
@@ -203,9 +202,8 @@ of_schedules set bodies script plans t keeps all (inr (schedules, is, d)) =
     of_trace set bodies schedules told.0 t keeps right told.1
 
 of_document : (set : ModeSet) (bodies : List BodySeen) (script : Told) (bytes t : List ℕ) → KeepsRules set → OfPlan set (OfSchedules set (TraceDue set bodies script)) bytes Done t → IsSafeReplay set bodies t
-of_document set bodies script bytes t keeps (inl (inl (long, es, et))) = absurd cc
-of_document set bodies script bytes t keeps (inl (inr (short, (refusal, refuses, es, et)))) = absurd cc
-of_document set bodies script bytes t keeps (inr (plans, accepted, d)) = of_schedules set bodies script plans t keeps accepted.1.right d
+of_document set bodies script bytes t keeps (inl (refusal, refuses, es, et)) = absurd cc
+of_document set bodies script bytes t keeps (inr (plans, accepted, d)) = of_schedules set bodies script plans t keeps accepted.0.right d
 
 of_bodies : (set : ModeSet) (bodies : List BodySeen) (other script : Told) (t : List ℕ) → KeepsRules set → ReplayDue other script bodies set Done t → IsSafeReplay set bodies t
 of_bodies set bodies other script t keeps (inl (task, lacks, es, et)) = absurd cc

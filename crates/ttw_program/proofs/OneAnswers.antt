@@ -71,19 +71,16 @@ refused_once set bytes f g keeps a b = elim (one_answers set bytes keeps) [
 ]
 
 refusal_one : (set : ModeSet) (bytes : List ℕ) → KeepsRules set → OneDue (IsRefused set bytes)
-refusal_one set bytes keeps s r t u (inl (long, es, et)) (inl (far, er, eu)) = same _ _ s r t u es et er eu
-refusal_one set bytes keeps s r t u (inl (long, es, et)) (inr (short, b)) = absurd (omega (arith, long, short))
-refusal_one set bytes keeps s r t u (inr (short, a)) (inl (long, er, eu)) = absurd (omega (arith, long, short))
-refusal_one set bytes keeps s r t u (inr (short, (f, a, es, et))) (inr (few, (g, b, er, eu))) =
+refusal_one set bytes keeps s r t u (f, a, es, et) (g, b, er, eu) =
     of_one (λ x. refusal_line set (Some x)) _ f g s r t u (refused_once set bytes f g keeps a b) es et er eu
 
 plan_one : (set : ModeSet) (D : List (Option Schedule) → Status → List ℕ → Type 0) → KeepsRules set → ((plans : List (Option Schedule)) → AllZip IsRight (doc_modes set) plans → OneDue (D plans)) → (bytes : List ℕ)
     → OneDue (OfPlan set D bytes)
 plan_one set D keeps one bytes s r t u (inl a) (inl b) = refusal_one set bytes keeps s r t u a b
-plan_one set D keeps one bytes s r t u (inl a) (inr (plans, ok, d)) = absurd (taken set bytes plans keeps ok.1 ok.0 s t a)
-plan_one set D keeps one bytes s r t u (inr (plans, ok, d)) (inl b) = absurd (taken set bytes plans keeps ok.1 ok.0 r u b)
+plan_one set D keeps one bytes s r t u (inl a) (inr (plans, ok, d)) = absurd (taken set bytes plans keeps ok.0 s t a)
+plan_one set D keeps one bytes s r t u (inr (plans, ok, d)) (inl b) = absurd (taken set bytes plans keeps ok.0 r u b)
 plan_one set D keeps one bytes s r t u (inr (plans, ok, d)) (inr (others, good, e)) =
-    one plans ok.1.right s r t u d (subst (λ (p : List (Option Schedule)). D p r u) (accepted_once set bytes others plans keeps good.1 ok.1) e)
+    one plans ok.0.right s r t u d (subst (λ (p : List (Option Schedule)). D p r u) (accepted_once set bytes others plans keeps good.0 ok.0) e)
 
 -- ---- schedules
 

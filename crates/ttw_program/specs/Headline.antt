@@ -28,7 +28,7 @@ use Rattle.replayer.specs.Trace.{trace}
 use Rattle.ttw_program.specs.Checks.{CheckDue, accepted_text}
 use Rattle.ttw_program.specs.Commands.{plan, replay, command}
 use Rattle.ttw_program.specs.Due.{Due}
-use Rattle.ttw_program.specs.PlanFiles.{IsRefused, most_plan_bytes}
+use Rattle.ttw_program.specs.PlanFiles.{IsRefused}
 use Rattle.ttw_program.specs.Plans.{IsWithin, SpendsFirst}
 use Rattle.ttw_program.specs.declared.status.Status.{Status}
 use Rattle.ttw_program.specs.declared.status.Status.TheVariants.{Done, NoSchedule as Unplanned, Budget}
@@ -40,16 +40,15 @@ abbrev pub HasFewest : DocMode → Option Schedule → Type 0
 HasFewest d None = NoSchedule d.mode
 HasFewest d (Some s) = IsSchedule d.mode (length s.starts) s × Fewest d.mode (length s.starts)
 
--- A document with the fewest rounds of each mode, and a certificate: what it says is accepted, with these schedules alone, and so it is by `check`,
--- which reads up to 16,777,216 bytes; so no command refuses it as a document (`tables` and `replay` still want a schedule for every mode). No search
--- exceeded the budget
+-- A document with the fewest rounds of each mode, and a certificate: what it says is accepted, with these schedules alone, and so it is by `check`;
+-- so no command refuses it as a document (`tables` and `replay` still want a schedule for every mode). No search exceeded the budget
 pub record IsCertified (set : ModeSet) (budget : ℕ) (text : List ℕ) : Type 0 where
   pub plans : List (Option Schedule)
   pub fewest : AllZip HasFewest (doc_modes set) plans
   pub accepted : Accepts set text plans
   pub no_other : (others : List (Option Schedule)) → Accepts set text others → others ≡ plans
-  pub checked : length text ≤ most_plan_bytes → CheckDue set text Done (accepted_text set plans)
-  pub taken : length text ≤ most_plan_bytes → (status : Status) (line : List ℕ) → IsRefused set text status line → ⊥
+  pub checked : CheckDue set text Done (accepted_text set plans)
+  pub taken : (status : Status) (line : List ℕ) → IsRefused set text status line → ⊥
   pub within : AllByRecursion (IsWithin set budget) set.modes
 
 -- `plan` of a mode file that says a set writes such a document, or tells exactly which mode's search exceeds the budget

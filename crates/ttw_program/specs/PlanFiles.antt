@@ -34,25 +34,15 @@ refusal_said set (Some (Unfinished mode)) = codes "unfinished " ++ (mode_at set 
 abbrev pub refusal_line : ModeSet → Option Refusal → List ℕ
 refusal_line set refusal = codes "plan: " ++ (refusal_said set refusal ++ 10 ∷ [])
 
--- a plan that is longer than what is read of one
-abbrev pub long_plan_line : List ℕ
-long_plan_line = codes "plan: too long\n"
-
--- the most bytes that are read of a plan
-abbrev pub most_plan_bytes : ℕ
-most_plan_bytes = 16777216
-
--- the answer to a document that is too long, or to one that is refused, with the refusal of its first refused line
+-- the answer to a document that is refused, with the refusal of its first refused line
 abbrev pub IsRefused : ModeSet → List ℕ → Status → List ℕ → Type 0
-IsRefused set bytes status text =
-    ((most_plan_bytes < length bytes) × (status ≡ Plan) × (text ≡ long_plan_line))
-    ⊎ ((length bytes ≤ most_plan_bytes) × ((refusal : Refusal) × Refuses set bytes refusal × (status ≡ Plan) × (text ≡ refusal_line set (Some refusal))))
+IsRefused set bytes status text = (refusal : Refusal) × Refuses set bytes refusal × (status ≡ Plan) × (text ≡ refusal_line set (Some refusal))
 
 -- ---- accepted documents
 
 -- a document is accepted with these schedules: each has the fewest rounds, and a mode has none only where no number of rounds has one
 abbrev pub IsAccepted : ModeSet → List ℕ → List (Option Schedule) → Type 0
-IsAccepted set bytes plans = (length bytes ≤ most_plan_bytes) × Accepts set bytes plans × AllZip IsBest (doc_modes set) plans
+IsAccepted set bytes plans = Accepts set bytes plans × AllZip IsBest (doc_modes set) plans
 
 -- its refusal is due, or what is due of its schedules
 abbrev pub OfPlan : ModeSet → (List (Option Schedule) → Status → List ℕ → Type 0) → List ℕ → Status → List ℕ → Type 0

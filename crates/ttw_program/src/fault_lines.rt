@@ -28,9 +28,6 @@ pub(crate) const USAGE: &str =
 /// The line of a file that was not read.
 pub(crate) const READ_FAULT: &str = "read fault\n";
 
-/// The line of a plan that is longer than what is read of one.
-pub(crate) const LONG_PLAN: &str = "plan: too long\n";
-
 /// What is said of a refused mode file: some words, and the key or name that they speak of.
 fn said_of(fault: &FileFault) -> (&'static str, &[u8])
     ensures { result.0.now ++ result.1.now ≡ said fault.now }

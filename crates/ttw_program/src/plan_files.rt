@@ -1,21 +1,18 @@
 //! The plan document that a command names.
 
-ghost use Rattle.std.specs.Prelude.{◌≡◌, ◌≤◌, length, IfOk, IsErrOf};
+ghost use Rattle.std.specs.Prelude.{◌≡◌, ◌≤◌, IfOk, IsErrOf};
 ghost use Rattle.app_graph.specs.Validation.{KeepsRules};
 ghost use Rattle.ttw_io.specs.Outside.{Rose};
-ghost use Rattle.ttw_program.specs.PlanFiles.{HasSchedules, PlanSaid, PlanSaidOf, long_plan_line, most_plan_bytes};
+ghost use Rattle.ttw_program.specs.PlanFiles.{HasSchedules, PlanSaidOf};
 
 use crate::answers::{Answer, End};
-use crate::fault_lines::{LONG_PLAN, refusal_line};
+use crate::fault_lines::refusal_line;
 use crate::status::Status;
 use app_graph::{ListOf, ModeSet};
-use cert_checker::{Accepted, Refused, check};
+use cert_checker::{Accepted, CheckEnd, Refused, check_from};
 use sched_model::Schedule;
 use std::alloc::{AllocError, Global};
-use ttw_io::{Files, ReadEnd, read_all};
-
-/// The most bytes that a plan may have.
-const MOST_BYTES: u64 = 16_777_216;
+use ttw_io::Files;
 
 /// What a plan document says.
 #[derive(Drop)]
@@ -35,31 +32,7 @@ pub(crate) enum Schedules {
     Without(usize),
 }
 
-/// The answer to a plan that is longer than what is read of one.
-fn too_long(alloc: Global) -> Result<Answer, AllocError>
-    ensures status { IfOk result (λ a. a.status ≡ Status.Plan) }
-    ensures text { IfOk result (λ a. a.text ≡ long_plan_line) }
-{
-    Answer::told(alloc, Status::Plan, LONG_PLAN)
-}
-
-/// What the bytes of a plan say of the set.
-fn read_bytes(alloc: Global, set: &ModeSet, bytes: &[u8]) -> Result<PlanFile, AllocError>
-    requires rules { KeepsRules set.now }
-    requires short { length bytes.now ≤ most_plan_bytes }
-    ensures { IfOk result (PlanSaid set.now bytes.now) }
-{
-    match check(alloc, set, bytes) {
-        Ok(accepted) => Ok(PlanFile::Accepted(accepted)),
-        Err(Refused::Memory) => Err(AllocError),
-        Err(refused) => Ok(PlanFile::Refused(Answer {
-            status: Status::Plan,
-            text: refusal_line(alloc, set, refused)?,
-        })),
-    }
-}
-
-/// Reads the plan of this name for the set.
+/// Reads the plan of this name for the set, line by line.
 pub(crate) fn read_plan_file<F: Files>(
     alloc: Global,
     set: &ModeSet,
@@ -72,11 +45,14 @@ pub(crate) fn read_plan_file<F: Files>(
     ensures kept { F.contents files.new ≡ F.contents files.old }
     ensures counted { F.faults files.old ≤ F.faults files.new }
 {
-    match read_all(alloc, files, plan, MOST_BYTES) {
-        Ok(bytes) => Ok(read_bytes(alloc, set, bytes.as_slice())?),
-        Err(ReadEnd::Long(_bytes)) => Ok(PlanFile::Refused(too_long(alloc)?)),
-        Err(ReadEnd::Failed) => Err(End::Read),
-        Err(ReadEnd::Memory) => Err(End::Memory),
+    match check_from(alloc, set, files, plan) {
+        Ok(accepted) => Ok(PlanFile::Accepted(accepted)),
+        Err(CheckEnd::ReadFault) => Err(End::Read),
+        Err(CheckEnd::Refused(Refused::Memory)) => Err(End::Memory),
+        Err(CheckEnd::Refused(refused)) => Ok(PlanFile::Refused(Answer {
+            status: Status::Plan,
+            text: refusal_line(alloc, set, refused)?,
+        })),
     }
 }
 

@@ -373,17 +373,14 @@ fn failing_reads_of_a_check(rt: HostRuntime) -> Result<(), Fail> {
     Ok(())
 }
 
+/// A plan of more than 16,777,216 bytes, of which the first line is longer than a line may be.
 #[test]
-fn longest_plan(rt: HostRuntime) -> Result<(), Fail> {
+fn longer_plan(rt: HostRuntime) -> Result<(), Fail> {
     let mut plan = Vec::new(rt.alloc());
-    plan.resize(16_777_216, b' ')?;
+    plan.resize(16_777_217, b' ')?;
     let (status, text) = checked(rt.alloc(), LOOP, plan.as_slice(), &[])?;
     assert!(rt; status == Status::Plan);
     assert_eq!(rt; text.as_slice(), b"plan: grammar line 1\n".as_slice());
-    plan.push(b' ')?;
-    let (status, text) = checked(rt.alloc(), LOOP, plan.as_slice(), &[])?;
-    assert!(rt; status == Status::Plan);
-    assert_eq!(rt; text.as_slice(), b"plan: too long\n".as_slice());
     Ok(())
 }
 
