@@ -12,3 +12,4 @@ pub mod CountLemmas
 pub mod EventSteps
 pub mod LineSteps
 pub mod WholeScripts
+pub mod NameTexts

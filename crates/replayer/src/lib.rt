@@ -9,6 +9,7 @@ mod replaying;
 #[cfg(test)]
 mod tests;
 mod tracer;
+mod words;
 
 pub use counts::Counts;
 pub use replaying::{ReplayEnd, replay};

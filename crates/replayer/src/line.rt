@@ -9,26 +9,12 @@ ghost use Rattle.replayer.specs.Trace.{done_line, input_text, inputs_text, line,
 ghost use Rattle.replayer.specs.Trace.{nodes_text, task_text, values_text};
 
 use crate::names::Names;
+use crate::words::{Piece, Word, put_pieces};
 use beacon_codec::{Beacon, flags};
-use itoa::Buffer as Digits;
 use node_core::{Inputs, Packet, Values};
 use tick_num::Time;
 use ttw_io::{Buffer, Failed, Sink};
 use world_core::Done;
-
-/// The spelling of a number.
-fn number(digits: &mut Digits, n: u64) -> &[u8]
-    ensures { result.now ≡ spelled n }
-{
-    digits.format(n).as_bytes()
-}
-
-/// The spelling of a signed number.
-fn signed(digits: &mut Digits, n: i64) -> &[u8]
-    ensures { result.now ≡ signed_spelled n }
-{
-    digits.format(n).as_bytes()
-}
 
 /// Puts the name of a node behind a blank, where the node is in a set.
 fn put_node<S: Sink>(
@@ -46,7 +32,7 @@ fn put_node<S: Sink>(
     if !is_in {
         return Ok(());
     }
-    buffer.put_all(&[b" ", names.node(node)], out)
+    names.node(node).put(buffer, out)
 }
 
 /// Puts the names of the nodes in a set, each behind a blank.
@@ -78,19 +64,21 @@ fn put_values<S: Sink>(values: &Values, buffer: &mut Buffer, out: &mut S) -> Res
         (S.flushes out.old) (S.flushes out.new) }
 {
     for value in values.as_slice() {
-        let mut digits = Digits::new();
-        buffer.put_all(&[b" ", signed(&mut digits, *value)], out)?;
+        put_pieces(&[Piece::Text(b" "), Piece::Signed(*value)], buffer, out)?;
     }
     Ok(())
 }
 
-/// The text of an input.
-fn input_bytes<'a>(input: &Option<i64>, digits: &'a mut Digits) -> &'a [u8]
-    ensures { result.now ≡ input_text input.now }
+/// Puts an input behind a blank.
+fn put_input<S: Sink>(input: &Option<i64>, buffer: &mut Buffer, out: &mut S) -> Result<(), Failed>
+    ensures put { HasPut result (S.held out.old) (S.held out.new) buffer.old buffer.new
+        (32 ∷ input_text input.now) }
+    ensures sink { OnlyWrites result (S.faults out.old) (S.faults out.new)
+        (S.flushes out.old) (S.flushes out.new) }
 {
     match input {
-        Some(value) => signed(digits, *value),
-        None => b"-",
+        Some(value) => put_pieces(&[Piece::Text(b" "), Piece::Signed(*value)], buffer, out),
+        None => buffer.put(b" -", out),
     }
 }
 
@@ -102,17 +90,16 @@ fn put_inputs<S: Sink>(inputs: &Inputs, buffer: &mut Buffer, out: &mut S) -> Res
         (S.flushes out.old) (S.flushes out.new) }
 {
     for input in inputs.as_slice() {
-        let mut digits = Digits::new();
-        buffer.put_all(&[b" ", input_bytes(input, &mut digits)], out)?;
+        put_input(input, buffer, out)?;
     }
     Ok(())
 }
 
 /// Puts a line of a word and a name.
-fn put_named<S: Sink>(
+fn put_named<'a, S: Sink>(
     at: Time,
-    word: &[u8],
-    name: &[u8],
+    word: &'a [u8],
+    name: &'a Word,
     buffer: &mut Buffer,
     out: &mut S,
 ) -> Result<(), Failed>
@@ -121,15 +108,23 @@ fn put_named<S: Sink>(
     ensures sink { OnlyWrites result (S.faults out.old) (S.faults out.new)
         (S.flushes out.old) (S.flushes out.new) }
 {
-    let mut tick = Digits::new();
-    buffer.put_all(&[signed(&mut tick, at), word, name, b"\n"], out)
+    put_pieces(
+        &[
+            Piece::Signed(at),
+            Piece::Text(word),
+            Piece::Behind(name),
+            Piece::Text(b"\n"),
+        ],
+        buffer,
+        out,
+    )
 }
 
 /// Puts a line of a word, a node and a task.
-fn put_task<S: Sink>(
-    names: &Names,
+fn put_task<'a, S: Sink>(
+    names: &'a Names<'_>,
     at: Time,
-    word: &[u8],
+    word: &'a [u8],
     node: u32,
     task: u32,
     buffer: &mut Buffer,
@@ -140,11 +135,17 @@ fn put_task<S: Sink>(
     ensures sink { OnlyWrites result (S.faults out.old) (S.faults out.new)
         (S.flushes out.old) (S.flushes out.new) }
 {
-    let mut tick = Digits::new();
     let node = names.node(node as usize);
     let task = names.task(task);
-    buffer.put_all(
-        &[signed(&mut tick, at), word, b" ", node, b" ", task, b"\n"],
+    put_pieces(
+        &[
+            Piece::Signed(at),
+            Piece::Text(word),
+            Piece::Behind(node),
+            Piece::Behind(task),
+            Piece::Text(b"\n"),
+        ],
+        buffer,
         out,
     )
 }
@@ -164,22 +165,19 @@ fn put_ended<S: Sink>(
     ensures sink { OnlyWrites result (S.faults out.old) (S.faults out.new)
         (S.flushes out.old) (S.flushes out.new) }
 {
-    let mut tick = Digits::new();
-    let mut digits = Digits::new();
     let node = names.node(node as usize);
     let task = names.task(task);
-    let value = signed(&mut digits, value);
-    buffer.put_all(
+    put_pieces(
         &[
-            signed(&mut tick, at),
-            b" end ",
-            node,
-            b" ",
-            task,
-            b" ",
-            value,
-            b"\n",
+            Piece::Signed(at),
+            Piece::Text(b" end"),
+            Piece::Behind(node),
+            Piece::Behind(task),
+            Piece::Text(b" "),
+            Piece::Signed(value),
+            Piece::Text(b"\n"),
         ],
+        buffer,
         out,
     )
 }
@@ -199,10 +197,18 @@ fn put_started<S: Sink>(
     ensures sink { OnlyWrites result (S.faults out.old) (S.faults out.new)
         (S.flushes out.old) (S.flushes out.new) }
 {
-    let mut tick = Digits::new();
     let node = names.node(node as usize);
     let task = names.task(task);
-    buffer.put_all(&[signed(&mut tick, at), b" start ", node, b" ", task], out)?;
+    put_pieces(
+        &[
+            Piece::Signed(at),
+            Piece::Text(b" start"),
+            Piece::Behind(node),
+            Piece::Behind(task),
+        ],
+        buffer,
+        out,
+    )?;
     put_inputs(inputs, buffer, out)?;
     buffer.put(b"\n", out)
 }
@@ -223,11 +229,16 @@ fn put_packet<S: Sink>(
     ensures sink { OnlyWrites result (S.faults out.old) (S.faults out.new)
         (S.flushes out.old) (S.flushes out.new) }
 {
-    let mut tick = Digits::new();
     let node = names.node(node as usize);
     let message = names.message(packet.message);
-    buffer.put_all(
-        &[signed(&mut tick, at), b" send ", node, b" ", message],
+    put_pieces(
+        &[
+            Piece::Signed(at),
+            Piece::Text(b" send"),
+            Piece::Behind(node),
+            Piece::Behind(message),
+        ],
+        buffer,
         out,
     )?;
     put_values(&packet.values, buffer, out)?;
@@ -268,15 +279,20 @@ fn put_beacon<S: Sink>(
     ensures sink { OnlyWrites result (S.faults out.old) (S.faults out.new)
         (S.flushes out.old) (S.flushes out.new) }
 {
-    let mut tick = Digits::new();
-    let mut round = Digits::new();
-    let mut digits = Digits::new();
-    let tick = signed(&mut tick, at);
-    let round = number(&mut round, u64::from(beacon.round));
+    let round = u64::from(beacon.round);
     let mode = names.mode(usize::from(beacon.mode));
-    let flags = number(&mut digits, u64::from(flags(beacon)));
-    buffer.put_all(
-        &[tick, b" beacon ", round, b" ", mode, b" ", flags, b" heard"],
+    let flags = u64::from(flags(beacon));
+    put_pieces(
+        &[
+            Piece::Signed(at),
+            Piece::Text(b" beacon "),
+            Piece::Number(round),
+            Piece::Behind(mode),
+            Piece::Text(b" "),
+            Piece::Number(flags),
+            Piece::Text(b" heard"),
+        ],
+        buffer,
         out,
     )?;
     put_nodes(names, heard, buffer, out)?;
@@ -306,7 +322,7 @@ pub(crate) fn put_line<S: Sink>(
         } => put_sent(names, *at, *node, packet, *taken, buffer, out),
         Done::Silent { at, message } => put_named(
             *at,
-            b" silent ",
+            b" silent",
             names.message(*message),
             buffer,
             out,
@@ -324,14 +340,14 @@ pub(crate) fn put_line<S: Sink>(
         Done::Void { at, node, task } => put_task(names, *at, b" void", *node, *task, buffer, out),
         Done::Requested { at, mode } => put_named(
             *at,
-            b" request ",
+            b" request",
             names.mode(*mode as usize),
             buffer,
             out,
         ),
         Done::Restarted { at, node } => put_named(
             *at,
-            b" restart ",
+            b" restart",
             names.node(*node as usize),
             buffer,
             out,
@@ -346,6 +362,13 @@ pub(crate) fn put_done<S: Sink>(events: u64, buffer: &mut Buffer, out: &mut S) -
     ensures sink { OnlyWrites result (S.faults out.old) (S.faults out.new)
         (S.flushes out.old) (S.flushes out.new) }
 {
-    let mut digits = Digits::new();
-    buffer.put_all(&[b"done ", number(&mut digits, events), b"\n"], out)
+    put_pieces(
+        &[
+            Piece::Text(b"done "),
+            Piece::Number(events),
+            Piece::Text(b"\n"),
+        ],
+        buffer,
+        out,
+    )
 }
