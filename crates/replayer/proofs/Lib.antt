@@ -12,4 +12,3 @@ pub mod CountLemmas
 pub mod EventSteps
 pub mod LineSteps
 pub mod WholeScripts
-pub mod NameTexts

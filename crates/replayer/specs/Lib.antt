@@ -3,5 +3,3 @@ pub mod Counting
 pub mod Scripts
 pub mod Replaying
 pub mod Running
-pub mod NameWords
-pub mod Pieces

@@ -9,7 +9,6 @@ mod replaying;
 #[cfg(test)]
 mod tests;
 mod tracer;
-mod words;
 
 pub use counts::Counts;
 pub use replaying::{ReplayEnd, replay};

@@ -9,12 +9,26 @@ ghost use Rattle.replayer.specs.Trace.{done_line, input_text, inputs_text, line,
 ghost use Rattle.replayer.specs.Trace.{nodes_text, task_text, values_text};
 
 use crate::names::Names;
-use crate::words::{Piece, Word, put_pieces};
 use beacon_codec::{Beacon, flags};
+use itoa::Buffer as Digits;
 use node_core::{Inputs, Packet, Values};
 use tick_num::Time;
 use ttw_io::{Buffer, Failed, Sink};
 use world_core::Done;
+
+/// The spelling of a number.
+fn number(digits: &mut Digits, n: u64) -> &[u8]
+    ensures { result.now ≡ spelled n }
+{
+    digits.format(n).as_bytes()
+}
+
+/// The spelling of a signed number.
+fn signed(digits: &mut Digits, n: i64) -> &[u8]
+    ensures { result.now ≡ signed_spelled n }
+{
+    digits.format(n).as_bytes()
+}
 
 /// Puts the name of a node behind a blank, where the node is in a set.
 fn put_node<S: Sink>(
@@ -32,7 +46,7 @@ fn put_node<S: Sink>(
     if !is_in {
         return Ok(());
     }
-    names.node(node).put(buffer, out)
+    buffer.put_all(&[b" ", names.node(node)], out)
 }
 
 /// Puts the names of the nodes in a set, each behind a blank.
@@ -64,21 +78,19 @@ fn put_values<S: Sink>(values: &Values, buffer: &mut Buffer, out: &mut S) -> Res
         (S.flushes out.old) (S.flushes out.new) }
 {
     for value in values.as_slice() {
-        put_pieces(&[Piece::Text(b" "), Piece::Signed(*value)], buffer, out)?;
+        let mut digits = Digits::new();
+        buffer.put_all(&[b" ", signed(&mut digits, *value)], out)?;
     }
     Ok(())
 }
 
-/// Puts an input behind a blank.
-fn put_input<S: Sink>(input: &Option<i64>, buffer: &mut Buffer, out: &mut S) -> Result<(), Failed>
-    ensures put { HasPut result (S.held out.old) (S.held out.new) buffer.old buffer.new
-        (32 ∷ input_text input.now) }
-    ensures sink { OnlyWrites result (S.faults out.old) (S.faults out.new)
-        (S.flushes out.old) (S.flushes out.new) }
+/// The text of an input.
+fn input_bytes<'a>(input: &Option<i64>, digits: &'a mut Digits) -> &'a [u8]
+    ensures { result.now ≡ input_text input.now }
 {
     match input {
-        Some(value) => put_pieces(&[Piece::Text(b" "), Piece::Signed(*value)], buffer, out),
-        None => buffer.put(b" -", out),
+        Some(value) => signed(digits, *value),
+        None => b"-",
     }
 }
 
@@ -90,16 +102,17 @@ fn put_inputs<S: Sink>(inputs: &Inputs, buffer: &mut Buffer, out: &mut S) -> Res
         (S.flushes out.old) (S.flushes out.new) }
 {
     for input in inputs.as_slice() {
-        put_input(input, buffer, out)?;
+        let mut digits = Digits::new();
+        buffer.put_all(&[b" ", input_bytes(input, &mut digits)], out)?;
     }
     Ok(())
 }
 
 /// Puts a line of a word and a name.
-fn put_named<'a, S: Sink>(
+fn put_named<S: Sink>(
     at: Time,
-    word: &'a [u8],
-    name: &'a Word,
+    word: &[u8],
+    name: &[u8],
     buffer: &mut Buffer,
     out: &mut S,
 ) -> Result<(), Failed>
@@ -108,23 +121,15 @@ fn put_named<'a, S: Sink>(
     ensures sink { OnlyWrites result (S.faults out.old) (S.faults out.new)
         (S.flushes out.old) (S.flushes out.new) }
 {
-    put_pieces(
-        &[
-            Piece::Signed(at),
-            Piece::Text(word),
-            Piece::Behind(name),
-            Piece::Text(b"\n"),
-        ],
-        buffer,
-        out,
-    )
+    let mut tick = Digits::new();
+    buffer.put_all(&[signed(&mut tick, at), word, name, b"\n"], out)
 }
 
 /// Puts a line of a word, a node and a task.
-fn put_task<'a, S: Sink>(
-    names: &'a Names<'_>,
+fn put_task<S: Sink>(
+    names: &Names,
     at: Time,
-    word: &'a [u8],
+    word: &[u8],
     node: u32,
     task: u32,
     buffer: &mut Buffer,
@@ -135,17 +140,11 @@ fn put_task<'a, S: Sink>(
     ensures sink { OnlyWrites result (S.faults out.old) (S.faults out.new)
         (S.flushes out.old) (S.flushes out.new) }
 {
+    let mut tick = Digits::new();
     let node = names.node(node as usize);
     let task = names.task(task);
-    put_pieces(
-        &[
-            Piece::Signed(at),
-            Piece::Text(word),
-            Piece::Behind(node),
-            Piece::Behind(task),
-            Piece::Text(b"\n"),
-        ],
-        buffer,
+    buffer.put_all(
+        &[signed(&mut tick, at), word, b" ", node, b" ", task, b"\n"],
         out,
     )
 }
@@ -165,19 +164,22 @@ fn put_ended<S: Sink>(
     ensures sink { OnlyWrites result (S.faults out.old) (S.faults out.new)
         (S.flushes out.old) (S.flushes out.new) }
 {
+    let mut tick = Digits::new();
+    let mut digits = Digits::new();
     let node = names.node(node as usize);
     let task = names.task(task);
-    put_pieces(
+    let value = signed(&mut digits, value);
+    buffer.put_all(
         &[
-            Piece::Signed(at),
-            Piece::Text(b" end"),
-            Piece::Behind(node),
-            Piece::Behind(task),
-            Piece::Text(b" "),
-            Piece::Signed(value),
-            Piece::Text(b"\n"),
+            signed(&mut tick, at),
+            b" end ",
+            node,
+            b" ",
+            task,
+            b" ",
+            value,
+            b"\n",
         ],
-        buffer,
         out,
     )
 }
@@ -197,18 +199,10 @@ fn put_started<S: Sink>(
     ensures sink { OnlyWrites result (S.faults out.old) (S.faults out.new)
         (S.flushes out.old) (S.flushes out.new) }
 {
+    let mut tick = Digits::new();
     let node = names.node(node as usize);
     let task = names.task(task);
-    put_pieces(
-        &[
-            Piece::Signed(at),
-            Piece::Text(b" start"),
-            Piece::Behind(node),
-            Piece::Behind(task),
-        ],
-        buffer,
-        out,
-    )?;
+    buffer.put_all(&[signed(&mut tick, at), b" start ", node, b" ", task], out)?;
     put_inputs(inputs, buffer, out)?;
     buffer.put(b"\n", out)
 }
@@ -229,16 +223,11 @@ fn put_packet<S: Sink>(
     ensures sink { OnlyWrites result (S.faults out.old) (S.faults out.new)
         (S.flushes out.old) (S.flushes out.new) }
 {
+    let mut tick = Digits::new();
     let node = names.node(node as usize);
     let message = names.message(packet.message);
-    put_pieces(
-        &[
-            Piece::Signed(at),
-            Piece::Text(b" send"),
-            Piece::Behind(node),
-            Piece::Behind(message),
-        ],
-        buffer,
+    buffer.put_all(
+        &[signed(&mut tick, at), b" send ", node, b" ", message],
         out,
     )?;
     put_values(&packet.values, buffer, out)?;
@@ -279,20 +268,15 @@ fn put_beacon<S: Sink>(
     ensures sink { OnlyWrites result (S.faults out.old) (S.faults out.new)
         (S.flushes out.old) (S.flushes out.new) }
 {
-    let round = u64::from(beacon.round);
+    let mut tick = Digits::new();
+    let mut round = Digits::new();
+    let mut digits = Digits::new();
+    let tick = signed(&mut tick, at);
+    let round = number(&mut round, u64::from(beacon.round));
     let mode = names.mode(usize::from(beacon.mode));
-    let flags = u64::from(flags(beacon));
-    put_pieces(
-        &[
-            Piece::Signed(at),
-            Piece::Text(b" beacon "),
-            Piece::Number(round),
-            Piece::Behind(mode),
-            Piece::Text(b" "),
-            Piece::Number(flags),
-            Piece::Text(b" heard"),
-        ],
-        buffer,
+    let flags = number(&mut digits, u64::from(flags(beacon)));
+    buffer.put_all(
+        &[tick, b" beacon ", round, b" ", mode, b" ", flags, b" heard"],
         out,
     )?;
     put_nodes(names, heard, buffer, out)?;
@@ -322,7 +306,7 @@ pub(crate) fn put_line<S: Sink>(
         } => put_sent(names, *at, *node, packet, *taken, buffer, out),
         Done::Silent { at, message } => put_named(
             *at,
-            b" silent",
+            b" silent ",
             names.message(*message),
             buffer,
             out,
@@ -340,14 +324,14 @@ pub(crate) fn put_line<S: Sink>(
         Done::Void { at, node, task } => put_task(names, *at, b" void", *node, *task, buffer, out),
         Done::Requested { at, mode } => put_named(
             *at,
-            b" request",
+            b" request ",
             names.mode(*mode as usize),
             buffer,
             out,
         ),
         Done::Restarted { at, node } => put_named(
             *at,
-            b" restart",
+            b" restart ",
             names.node(*node as usize),
             buffer,
             out,
@@ -362,13 +346,6 @@ pub(crate) fn put_done<S: Sink>(events: u64, buffer: &mut Buffer, out: &mut S) -
     ensures sink { OnlyWrites result (S.faults out.old) (S.faults out.new)
         (S.flushes out.old) (S.flushes out.new) }
 {
-    put_pieces(
-        &[
-            Piece::Text(b"done "),
-            Piece::Number(events),
-            Piece::Text(b"\n"),
-        ],
-        buffer,
-        out,
-    )
+    let mut digits = Digits::new();
+    buffer.put_all(&[b"done ", number(&mut digits, events), b"\n"], out)
 }

@@ -5,7 +5,7 @@ use Rattle.std.proofs.lemmas.Result.{on_ok_weaker, on_err_weaker}
 use Rattle.std.proofs.lemmas.Bool.{cond-false, lt-leb}
 use Rattle.std.proofs.Math.Seq.{take-append-add}
 use Rattle.std.proofs.lemmas.Grind.{flat_map-append}
-use Rattle.std.proofs.lemmas.List.{take-append-le, take-append-drop, take-take, append-nil, take_more}
+use Rattle.std.proofs.lemmas.List.{take-append-le, take-append-drop, append-nil, take_more}
 use Rattle.std.specs.Io.KnownBytes.{append_known}
 use Rattle.std.specs.List.{flat_map}
 use Rattle.ttw_io.specs.Buffering.{HasPut, HeldBack, Passes, Puts, left, written}
@@ -112,22 +112,6 @@ has_put_front (Ok x) old new before after text e room front = absurd (false_is_t
     false_is_true : false ≡ true → ⊥
     false_is_true e = grind (arith, e)
 has_put_front (Err x) old new before after text e room front = record { ok = tt; err = front; room = room }
-
--- ---- a front of a text
-
--- more bytes were put behind those that were held, and cut off again
-pub front_cut : (bytes padded more : List ℕ) (used len most : ℕ) → more ≡ take most padded → used ≡ length bytes → len ≤ most → take (used + len) (bytes ++ more) ≡ bytes ++ take len padded
-front_cut bytes padded more used len most is whole few =
-    ap (λ (n : ℕ). take (n + len) (bytes ++ more)) whole
-    ∙ take-append-add bytes more len
-    ∙ ap (λ (xs : List ℕ). bytes ++ xs) (ap (take len) is ∙ take-take len most padded few)
-
--- a text that is held back
-pub puts_held : (held : Option (List ℕ)) (before after : HeldBack) (text : List ℕ) → after.bytes ≡ before.bytes ++ text → Puts held held before after text
-puts_held held before after text is = record {
-  passed = ([], sym is, sym (append_known-nil held));
-  held = λ fits. is;
-}
 
 -- ---- a text that is longer than the room
 

@@ -1,6 +1,6 @@
 //! A buffer before a sink, so that many short texts need few writes.
 
-ghost use Rattle.std.specs.Prelude.{◌≡◌, ◌+◌, ◌<◌, ◌≤◌, IfOk, OnErr, OnOk, [], length, take, vec_capacity, vec_len};
+ghost use Rattle.std.specs.Prelude.{◌≡◌, ◌+◌, ◌<◌, ◌≤◌, IfOk, OnErr, OnOk, [], length, vec_capacity, vec_len};
 ghost use Rattle.std.specs.Io.KnownBytes.{append_known};
 ghost use Rattle.std.specs.List.{flat_map};
 ghost use Rattle.ttw_io.specs.Buffering.{HasPut, HeldBack, OnlyWrites, WritesAtNeed};
@@ -10,9 +10,6 @@ use crate::outside::{Failed, Sink};
 use crate::writing::write_all;
 use std::alloc::{AllocError, Global};
 use std::marker::Model;
-
-/// How many bytes are copied at one go.
-const FRONT: usize = 40;
 
 /// Bytes that are yet to be written, and how many there is room for. All their memory is taken when
 /// the buffer is made.
@@ -94,33 +91,6 @@ impl Buffer {
             return Ok(());
         }
         write_all(out, text)
-    }
-
-    /// Puts the first `len` bytes of a text, at most 40, which has 40 bytes or more. Where there is room for
-    /// 40, so many are copied at one go; else it puts as `put` does.
-    #[inline]
-    pub fn put_front<S: Sink>(
-        &mut self,
-        padded: &[u8],
-        len: usize,
-        out: &mut S,
-    ) -> Result<(), Failed>
-        requires padded { 40 ≤ length padded.now }
-        requires short { len ≤ 40 }
-
-        ensures put { HasPut result (S.held out.old) (S.held out.new)
-            self.old self.new (take len padded.now) }
-
-        ensures sink { OnlyWrites result (S.faults out.old) (S.faults out.new)
-            (S.flushes out.old) (S.flushes out.new) }
-    {
-        let used = self.bytes.len();
-        if self.room - used < FRONT {
-            return self.put(&padded[..len], out);
-        }
-        self.bytes.extend_from_slice(&padded[..FRONT]).unwrap();
-        self.bytes.truncate(used + len);
-        Ok(())
     }
 
     /// Puts texts, one behind the other, as `put` does with each.

@@ -7,4 +7,4 @@ use Rattle.replayer.proofs.line.put_task.Goals as goal
 pub returns-clause-put : goal.returns-clause-put
 returns-clause-put g c =
     let fits : FitsSigned w64 c.args.at = search rules in
-    has_put_same c.put_pieces.result _ _ c.args.buffer.now _ _ _ (task_line _ c.args.word.now _ _ _ _ c.node-node.ensures c.task-task.ensures) (simp to_z-of_z at c.put_pieces.ensures.put)
+    has_put_same c.put_all.result _ _ c.args.buffer.now _ _ _ (task_line _ _ c.args.word.now _ _ _ _ (simp to_z-of_z at c.signed.ensures) c.node-node.ensures c.task-task.ensures) c.put_all.ensures.put

@@ -11,17 +11,17 @@ loop-value-preserved g c =
     let value = get_or c.as_slice-value-items.result.now c.loop-value.value-index (pos 0) in
     let fits : FitsSigned w64 value = search rules in
     record {
-      puts = puts_more (λ x. 32 ∷ signed_spelled x) _ _ _ _ c.loop-value.buffer _ c.as_slice-value-items.result.now c.loop-value.value-index (pos 0) c.loop-value-test.true c.loop-value.invariant.room c.loop-value.invariant.puts (puts_same _ _ _ _ _ _ (blank_text _) (simp to_z-of_z at c.in_ok-put_pieces.ensures.put.ok));
-      room = c.in_ok-put_pieces.ensures.put.room ∙ c.loop-value.invariant.room;
-      counted = omega (arith, c.in_ok-put_pieces.ensures.sink.counted);
-      same_flushes = c.in_ok-put_pieces.ensures.sink.same_flushes ∙ c.loop-value.invariant.same_flushes;
+      puts = puts_more (λ x. 32 ∷ signed_spelled x) _ _ _ _ c.loop-value.buffer _ c.as_slice-value-items.result.now c.loop-value.value-index (pos 0) c.loop-value-test.true c.loop-value.invariant.room c.loop-value.invariant.puts (puts_same _ _ _ _ _ _ (blank_text _ _ (simp to_z-of_z at c.signed.ensures)) c.in_ok-put_all.ensures.put.ok);
+      room = c.in_ok-put_all.ensures.put.room ∙ c.loop-value.invariant.room;
+      counted = omega (arith, c.in_ok-put_all.ensures.sink.counted);
+      same_flushes = c.in_ok-put_all.ensures.sink.same_flushes ∙ c.loop-value.invariant.same_flushes;
     }
 
-pub returns-in_err-put_pieces-clause-put : goal.returns-in_err-put_pieces-clause-put
-returns-in_err-put_pieces-clause-put g c =
+pub returns-in_err-put_all-clause-put : goal.returns-in_err-put_all-clause-put
+returns-in_err-put_all-clause-put g c =
     let value = get_or c.as_slice-value-items.result.now c.loop-value.value-index (pos 0) in
     let fits : FitsSigned w64 value = search rules in
-    let front = front_same _ _ _ _ _ (blank_text (signed_spelled value)) (simp to_z-of_z at c.in_err-put_pieces.ensures.put.err) in
-    has_put_front c.from_residual.result _ _ c.args.buffer.now _ _ c.from_residual.ensures.0 (c.in_err-put_pieces.ensures.put.room ∙ c.loop-value.invariant.room)
+    let front = front_same _ _ _ _ _ (blank_text _ _ (simp to_z-of_z at c.signed.ensures)) c.in_err-put_all.ensures.put.err in
+    has_put_front c.from_residual.result _ _ c.args.buffer.now _ _ c.from_residual.ensures.0 (c.in_err-put_all.ensures.put.room ∙ c.loop-value.invariant.room)
     (front_same _ _ c.args.buffer.now.bytes _ _ (ap (λ (xs : List ℤ). values_text xs) c.as_slice-value-items.ensures.value)
     (front_more (λ x. 32 ∷ signed_spelled x) _ _ _ _ c.loop-value.buffer c.as_slice-value-items.result.now c.loop-value.value-index (pos 0) c.loop-value-test.true c.loop-value.invariant.puts front))

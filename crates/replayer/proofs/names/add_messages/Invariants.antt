@@ -1,5 +1,5 @@
-use Rattle.std.proofs.Common.{◌≡◌, ◌++◌, ◌∷◌, take, map}
+use Rattle.std.proofs.Common.{◌≡◌, ◌++◌, take, map}
 use Rattle.replayer.proofs.names.add_messages.Given as goal
 
 abbrev pub invariant-loop-message : goal.invariant-loop-message
-invariant-loop-message l = l.words ≡ l.initial.words ++ map (λ m. 32 ∷ m.name) (take l.message-index l.message-items)
+invariant-loop-message l = l.names ≡ l.initial.names ++ map (λ m. m.name) (take l.message-index l.message-items)
