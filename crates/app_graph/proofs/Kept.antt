@@ -9,15 +9,15 @@ use Rattle.std.proofs.lemmas.Int.{ints}
 use borrow.Author.Differences.{le-true}
 use borrow.Author.Tests.{ltb-true, leb-true}
 use Rattle.app_graph.specs.declared.faults.GraphFault.TheVariants.{OutOfRange, TooMany}
-use Rattle.app_graph.specs.declared.keys.Key.TheVariants.{KTask, KMessage, KPeriod, KRound, KMode, KNodes, KSlots}
+use Rattle.app_graph.specs.declared.keys.Key.TheVariants.{KTask, KMessage, KPeriod, KCopies, KRound, KMode, KNodes, KSlots}
 use Rattle.app_graph.specs.declared.raw.RawTask.{RawTask}
 use Rattle.app_graph.specs.declared.raw.RawMessage.{RawMessage}
 use Rattle.app_graph.specs.declared.raw.RawApp.{RawApp}
 use Rattle.app_graph.specs.declared.raw.RawMode.{RawMode}
 use Rattle.app_graph.specs.declared.raw.RawSet.{RawSet}
 use Rattle.app_graph.specs.Rules.{Rule, unless, first_of, each_after}
-use Rattle.app_graph.specs.ValueRules.{within, task_values, task_rules, message_values, message_rules, own_rules, app_values, app_rules, mode_values, mode_rules, round_values, round_rules, node_rules, value_rules, set_rules}
-use Rattle.app_graph.specs.Numbering.{task_count, message_count}
+use Rattle.app_graph.specs.ValueRules.{within, most_copies, task_values, task_rules, message_values, message_rules, own_rules, app_values, app_rules, mode_values, mode_rules, round_values, round_rules, node_rules, value_rules, set_rules}
+use Rattle.app_graph.specs.Numbering.{task_count, message_count, HasCopies, HaveCopies}
 
 -- of a list of rules that are kept the first one is, and the others are
 pub kept_parts : {Fault : Type 0} (r : Rule Fault) (rs : List (Rule Fault)) → first_of (r ∷ rs) ≡ None → (r ≡ None) × (first_of rs ≡ None)
@@ -55,7 +55,7 @@ task_room set app earlier t e =
 
 message_room : (app : RawApp) (earlier : List RawMessage) (m : RawMessage) → message_values app earlier m ≡ None → length earlier < 64
 message_room app earlier m e =
-    ltb-true (length earlier) 64 (unless_kept (nat_lt (length earlier) 64) (TooMany KMessage) (all_kept (message_rules app earlier m) e).1.1.1.1.0)
+    ltb-true (length earlier) 64 (unless_kept (nat_lt (length earlier) 64) (TooMany KMessage) (all_kept (message_rules app earlier m) e).1.1.1.1.1.0)
 
 pub tasks_fit : (set : RawSet) (app : RawApp) (earlier : List RawTask) → length earlier ≤ 128
     → each_after (task_values set app) earlier app.tasks ≡ None → length earlier + length app.tasks ≤ 128
@@ -146,3 +146,29 @@ set_slots set e =
     let low = le-true (pos 1) set.slots p.0 in
     let high = le-true set.slots (pos 32) p.1 in
     (omega (arith, ints, low), omega (arith, ints, high))
+
+-- ---- the copies of messages
+message_copies : (app : RawApp) (earlier : List RawMessage) (m : RawMessage) → message_values app earlier m ≡ None → HasCopies m
+message_copies app earlier m e =
+    let k = (all_kept (message_rules app earlier m) e).1.1.1.0 in
+    let w = unless_kept (within (pos 1) (pos most_copies) m.copies) (OutOfRange KCopies) k in
+    let p = and_parts (int_le (pos 1) m.copies) (int_le m.copies (pos most_copies)) w in
+    let low = le-true (pos 1) m.copies p.0 in
+    let high = le-true m.copies (pos most_copies) p.1 in
+    (omega (arith, ints, low), omega (arith, ints, high))
+
+app_copies : (set : RawSet) (earlier : List RawApp) (app : RawApp) → app_values set earlier app ≡ None → All HasCopies app.messages
+app_copies set earlier app e =
+    let k = (all_kept (app_rules set earlier app) e).1.1.0 in
+    All-from_recursion HasCopies app.messages (each_kept (message_values app) HasCopies (message_copies app) (flat_map (λ a. a.messages) earlier) app.messages k)
+
+mode_copies : (set : RawSet) (earlier : List RawMode) (mode : RawMode) → mode_values set earlier mode ≡ None → HaveCopies mode.apps
+mode_copies set earlier mode e =
+    let k = (all_kept (mode_rules set earlier mode) e).1.1.0 in
+    All-from_recursion (λ (a : RawApp). All HasCopies a.messages) mode.apps
+    (each_kept (app_values set) (λ a. All HasCopies a.messages) (app_copies set) [] mode.apps k)
+
+pub set_copies : (set : RawSet) → value_rules set ≡ None → All (λ mode. HaveCopies mode.apps) set.modes
+set_copies set e =
+    All-from_recursion (λ (mode : RawMode). HaveCopies mode.apps) set.modes
+    (each_kept (mode_values set) (λ mode. HaveCopies mode.apps) (mode_copies set) [] set.modes (all_kept (set_rules set) e).1.1.1.1.0)

@@ -1,5 +1,5 @@
 -- Walks of a number of edges, and the cycles that long ones have
-use Rattle.std.proofs.Common.{◌≡◌, ℕ, zero, suc, ◌+◌, ◌-◌, ◌^◌, ◌<◌, ◌≤◌, Bool, true, false, cond, not, eqb, ◌&&◌, ◌||◌, List, [], ◌∷◌, length, get_or, map, Contains, refl, sym, ◌∙◌, ap, subst, arith, pos, ⊎_elim, bit_and, bit_or}
+use Rattle.std.proofs.Common.{◌≡◌, ℕ, zero, suc, pos, ◌+◌, ◌-◌, ◌^◌, ◌<◌, ◌≤◌, Bool, true, false, cond, not, eqb, ◌&&◌, ◌||◌, List, [], ◌∷◌, length, get_or, map, Contains, refl, sym, ◌∙◌, ap, subst, arith, pos, ⊎_elim, bit_and, bit_or}
 use Rattle.std.specs.List.{fold, list_any}
 use Rattle.std.proofs.lemmas.Bool.{and_parts, and_from, or_cases, or_left, or_right}
 use Rattle.std.proofs.lemmas.List.Elements.{Contains-get_or}
@@ -96,8 +96,8 @@ module _ (app : RawApp) where
   begins_step : (k : ℕ) (t d : RawTask) → begins app (suc k) t ≡ true
       → (i : ℕ) × (i < length app.tasks) × (goes app t (get_or app.tasks i d) ≡ true) × (begins app k (get_or app.tasks i d) ≡ true)
   begins_step k t d e =
-      let m = passed (reaches_by app.tasks (begins app k) t) app.messages (record { name = []; from = []; to = [] }) e in
-      let msg = get_or app.messages m.0 (record { name = []; from = []; to = [] }) in
+      let m = passed (reaches_by app.tasks (begins app k) t) app.messages (record { name = []; from = []; to = []; copies = pos 0 }) e in
+      let msg = get_or app.messages m.0 (record { name = []; from = []; to = []; copies = pos 0 }) in
       let w = and_parts (among t.name msg.from) (list_any (λ v. among v.name msg.to && begins app k v) app.tasks) m.2 in
       let v = passed (λ v. among v.name msg.to && begins app k v) app.tasks d w.1 in
       let x = get_or app.tasks v.0 d in
@@ -106,8 +106,8 @@ module _ (app : RawApp) where
 
   begins_more : (k : ℕ) (t v : RawTask) → Contains app.tasks v → goes app t v ≡ true → begins app k v ≡ true → begins app (suc k) t ≡ true
   begins_more k t v c g b =
-      let m = passed (λ m. among t.name m.from && among v.name m.to) app.messages (record { name = []; from = []; to = [] }) g in
-      let msg = get_or app.messages m.0 (record { name = []; from = []; to = [] }) in
+      let m = passed (λ m. among t.name m.from && among v.name m.to) app.messages (record { name = []; from = []; to = []; copies = pos 0 }) g in
+      let msg = get_or app.messages m.0 (record { name = []; from = []; to = []; copies = pos 0 }) in
       let w = and_parts (among t.name msg.from) (among v.name msg.to) m.2 in
       list_any_at (reaches_by app.tasks (begins app k) t) app.messages m.0 _ m.1
       (and_from (among t.name msg.from) _ w.0 (found (λ u. among u.name msg.to && begins app k u) app.tasks v c (and_from (among v.name msg.to) (begins app k v) w.1 b)))

@@ -1,5 +1,5 @@
 -- The mode set that a mode file as it is written says: names become numbers
-use Rattle.std.specs.Prelude.{ℕ, ◌+◌, List, [], ◌∷◌, length, map, sum_by, position, unwrap_or, unsigned_abs}
+use Rattle.std.specs.Prelude.{ℕ, ◌+◌, List, [], ◌∷◌, length, map, sum_by, position, unwrap_or, unsigned_abs, All, pos, ◌≤ℤ◌}
 use Rattle.std.specs.Str.{bytes_eq}
 use Rattle.app_graph.specs.declared.raw.RawTask.{RawTask}
 use Rattle.app_graph.specs.declared.raw.RawMessage.{RawMessage}
@@ -11,6 +11,7 @@ use Rattle.app_graph.specs.declared.mode_set.Message.{Message}
 use Rattle.app_graph.specs.declared.mode_set.App.{App}
 use Rattle.app_graph.specs.declared.mode_set.Mode.{Mode}
 use Rattle.app_graph.specs.declared.mode_set.ModeSet.{ModeSet}
+use Rattle.app_graph.specs.ValueRules.{most_copies}
 
 -- the place, from 0, of the first node with the name
 abbrev pub node_place : List (List ℕ) → List ℕ → ℕ
@@ -33,9 +34,17 @@ tasks_from nodes n (t ∷ ts) = task_of nodes n t ∷ tasks_from nodes (n + 1) t
 abbrev pub numbers_of : ℕ → List RawTask → List (List ℕ) → List ℕ
 numbers_of t tasks names = map (λ name. t + task_place tasks name) names
 
+-- a message has one copy or more, and not too many
+abbrev pub HasCopies : RawMessage → Type 0
+HasCopies m = (pos 1 ≤ℤ m.copies) × (m.copies ≤ℤ pos most_copies)
+
+-- each message of the applications has
+abbrev pub HaveCopies : List RawApp → Type 0
+HaveCopies apps = All (λ a. All HasCopies a.messages) apps
+
 -- a message with the number n
 abbrev pub message_of : ℕ → List RawTask → ℕ → RawMessage → Message
-message_of t tasks n m = record { name = m.name; from = numbers_of t tasks m.from; to = numbers_of t tasks m.to; number = n }
+message_of t tasks n m = record { name = m.name; from = numbers_of t tasks m.from; to = numbers_of t tasks m.to; number = n; copies = unsigned_abs m.copies }
 
 -- messages with the numbers n, n + 1, ..
 abbrev pub messages_from : ℕ → List RawTask → ℕ → List RawMessage → List Message

@@ -3,7 +3,7 @@ use Rattle.std.specs.Prelude.{ℕ, zero, suc, ◌+◌, ◌*◌, ◌/◌, ℤ, po
 use Rattle.std.specs.List.{flat_map, list_any, list_all}
 use Rattle.std.specs.Str.{bytes_eq}
 use Rattle.app_graph.specs.declared.keys.Key.{Key}
-use Rattle.app_graph.specs.declared.keys.Key.TheVariants.{KSlots, KRound, KGap, KHost, KNodes, KMode, KName, KApp, KPeriod, KDeadline, KTask, KMessage, KNode, KWcet, KBody, KFrom, KTo, KInputs, KHyperperiod, KRounds, KRuns, KInstances, KDecisions}
+use Rattle.app_graph.specs.declared.keys.Key.TheVariants.{KSlots, KRound, KGap, KHost, KNodes, KMode, KName, KApp, KPeriod, KDeadline, KTask, KMessage, KNode, KWcet, KBody, KFrom, KTo, KCopies, KInputs, KHyperperiod, KRounds, KRuns, KInstances, KDecisions}
 use Rattle.app_graph.specs.declared.faults.GraphFault.{GraphFault}
 use Rattle.app_graph.specs.declared.faults.GraphFault.TheVariants.{OutOfRange, Repeated, Unknown, TwoSenders, Cycle, DeadlineLong, TooMany}
 use Rattle.app_graph.specs.declared.raw.RawTask.{RawTask}
@@ -81,12 +81,17 @@ tasks_named app names = filter (λ t. among t.name names) app.tasks
 abbrev pub on_one_node : List RawTask → Bool
 on_one_node tasks = list_all (λ t. list_all (λ u. bytes_eq t.node u.node) tasks) tasks
 
--- a message: its name is new in the mode; it has 1 to 4 producers, on one node, and 1 to 16 consumers;
+-- the most copies of a message
+abbrev pub most_copies : ℕ
+most_copies = 1
+
+-- a message: its name is new in the mode; it has 1 to 4 producers, on one node, and 1 to 16 consumers; its copies are in range;
 -- the mode has at most 64 messages so far
 abbrev pub message_rules : RawApp → List RawMessage → RawMessage → List (Rule GraphFault)
 message_rules app earlier m =
     named m.name (is_message earlier m.name)
     ∷ ends KFrom 4 app m.from ∷ ends KTo 16 app m.to
+    ∷ unless (within (pos 1) (pos most_copies) m.copies) (OutOfRange KCopies)
     ∷ unless (on_one_node (tasks_named app m.from)) (TwoSenders m.name)
     ∷ unless (nat_lt (length earlier) 64) (TooMany KMessage) ∷ []
 
@@ -149,21 +154,29 @@ hyper_of mode = hyperperiod (map (λ a. unsigned_abs a.period) mode.apps)
 abbrev pub runs_in : ℕ → (RawApp → ℕ) → List RawApp → ℕ
 runs_in h count apps = sum_by (λ a. count a * (h / unsigned_abs a.period)) apps
 
+-- how many slots the messages need, where each comes n times: one for each copy
+unfoldable pub slots_of : ℕ → List RawMessage → ℕ
+slots_of n messages = sum_by (λ m. unsigned_abs m.copies * n) messages
+
+-- how many slots the messages of the applications need in h ticks
+abbrev pub slots_in : ℕ → List RawApp → ℕ
+slots_in h apps = sum_by (λ a. slots_of (h / unsigned_abs a.period) a.messages) apps
+
 -- how many pairs of tasks are on one node
 abbrev pub pairs_in : List RawTask → ℕ
 pairs_in [] = 0
 pairs_in (t ∷ ts) = count_by (λ u. bytes_eq t.node u.node) ts + pairs_in ts
 
 -- the sizes of a mode with the hyperperiod h: the hyperperiod; each deadline, within it; the rounds that may fit into it;
--- the runs of tasks and the instances of messages in it; the decisions, which are the instances and the pairs of tasks on one node
+-- the runs of tasks and the copies of messages in it; the decisions, which are the copies and the pairs of tasks on one node
 abbrev pub sizes_at : ℕ → RawSet → RawMode → Rule GraphFault
 sizes_at h set mode = first_of (
     unless (nat_le h 1000000000000) (TooMany KHyperperiod)
     ∷ each (λ a. unless (nat_le (unsigned_abs a.deadline) h) (DeadlineLong a.name)) mode.apps
     ∷ unless (nat_le (h / unsigned_abs set.round) 256) (TooMany KRounds)
     ∷ unless (nat_le (runs_in h (λ a. length a.tasks) mode.apps) 4096) (TooMany KRuns)
-    ∷ unless (nat_le (runs_in h (λ a. length a.messages) mode.apps) 512) (TooMany KInstances)
-    ∷ unless (nat_le (runs_in h (λ a. length a.messages) mode.apps + pairs_in (flat_map (λ a. a.tasks) mode.apps)) 4096) (TooMany KDecisions) ∷ [])
+    ∷ unless (nat_le (slots_in h mode.apps) 512) (TooMany KInstances)
+    ∷ unless (nat_le (slots_in h mode.apps + pairs_in (flat_map (λ a. a.tasks) mode.apps)) 4096) (TooMany KDecisions) ∷ [])
 
 abbrev pub size_values : RawSet → RawMode → Rule GraphFault
 size_values set mode = sizes_at (hyper_of mode) set mode

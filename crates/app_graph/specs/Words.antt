@@ -1,7 +1,7 @@
 -- The words of a mode file
 use Rattle.std.specs.Prelude.{ℕ, List, codes}
 use Rattle.app_graph.specs.declared.keys.Key.{Key}
-use Rattle.app_graph.specs.declared.keys.Key.TheVariants.{KSlots, KRound, KGap, KHost, KNodes, KMode, KName, KApp, KPeriod, KDeadline, KTask, KMessage, KNode, KWcet, KBody, KFrom, KTo, KInputs, KHyperperiod, KRounds, KRuns, KInstances, KDecisions}
+use Rattle.app_graph.specs.declared.keys.Key.TheVariants.{KSlots, KRound, KGap, KHost, KNodes, KMode, KName, KApp, KPeriod, KDeadline, KTask, KMessage, KNode, KWcet, KBody, KFrom, KTo, KCopies, KInputs, KHyperperiod, KRounds, KRuns, KInstances, KDecisions}
 
 abbrev pub word : Key → List ℕ
 word KSlots = codes "slots"
@@ -21,6 +21,7 @@ word KWcet = codes "wcet"
 word KBody = codes "body"
 word KFrom = codes "from"
 word KTo = codes "to"
+word KCopies = codes "copies"
 word KInputs = codes "inputs"
 word KHyperperiod = codes "hyperperiod"
 word KRounds = codes "rounds"

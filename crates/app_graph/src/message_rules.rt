@@ -7,13 +7,16 @@ ghost use Rattle.app_graph.specs.Checks.{Checks};
 ghost use Rattle.app_graph.specs.Rules.{each, each_after, unless};
 ghost use Rattle.app_graph.specs.ValueRules.{among, inputs_of, message_values, on_one_node, tasks_named};
 
-use crate::checks::few;
+use crate::checks::{few, in_range, is_within};
 use crate::faults::GraphFault;
 use crate::keys::Key;
 use crate::name_rules::{check_ends, check_name, is_earlier_message};
 use crate::names::{Name, is_among, is_same};
 use crate::raw::{RawApp, RawMessage, RawTask};
 use std::alloc::Global;
+
+/// The most copies of a message.
+const MOST_COPIES: i64 = 1;
 
 /// Whether the applications have fewer than 64 messages, `more` others counted too.
 fn has_room(apps: &[RawApp], more: usize) -> bool
@@ -79,6 +82,7 @@ fn check_message(
     )?;
     check_ends(alloc, Key::KFrom, 4, app, message.from.as_slice())?;
     check_ends(alloc, Key::KTo, 16, app, message.to.as_slice())?;
+    in_range(is_within(1, MOST_COPIES, message.copies), Key::KCopies)?;
     one_sender(
         alloc,
         are_on_one_node(app, message.from.as_slice()),

@@ -30,6 +30,8 @@ pub struct Message {
     pub to: ListOf<u32>,
     /// Its number, from 0.
     pub number: u32,
+    /// How many round instances of a window carry it, at least 1.
+    pub copies: u32,
 }
 
 /// An application: an acyclic graph of tasks that messages join.

@@ -1,7 +1,7 @@
 //! The mode set of a file that keeps the rules: names become numbers.
 
-ghost use Rattle.std.specs.Prelude.{◌≡◌, ◌+◌, ◌^◌, ◌<◌, ◌≤◌, IfOk, length, pos, sum_by, ◌≤ℤ◌};
-ghost use Rattle.app_graph.specs.Numbering.{app_of, apps_from, message_count, message_of, messages_from, mode_of, modes_from, numbers_of, set_of, task_count, task_of, tasks_from};
+ghost use Rattle.std.specs.Prelude.{◌≡◌, ◌+◌, ◌^◌, ◌<◌, ◌≤◌, IfOk, length, pos, sum_by, ◌≤ℤ◌, All};
+ghost use Rattle.app_graph.specs.Numbering.{HasCopies, HaveCopies, app_of, apps_from, message_count, message_of, messages_from, mode_of, modes_from, numbers_of, set_of, task_count, task_of, tasks_from};
 
 use crate::lists::ListOf;
 use crate::mode_set::{App, Message, Mode, ModeSet, Task};
@@ -82,7 +82,8 @@ fn number_message(
     number: u32,
     message: &RawMessage,
 ) -> Result<Message, AllocError>
-    requires { first + length tasks.now < 2 ^ 31 }
+    requires tasks { first + length tasks.now < 2 ^ 31 }
+    requires copies { HasCopies message.now }
     ensures { IfOk result (λ m. m ≡ message_of first tasks.now number message.now) }
 {
     Ok(Message {
@@ -90,6 +91,7 @@ fn number_message(
         from: numbers(alloc, first, tasks, message.from.as_slice())?,
         to: numbers(alloc, first, tasks, message.to.as_slice())?,
         number,
+        copies: message.copies as u32,
     })
 }
 
@@ -103,6 +105,7 @@ fn number_messages(
 ) -> Result<ListOf<Message>, AllocError>
     requires tasks { first + length tasks.now < 2 ^ 31 }
     requires messages { number + length messages.now < 2 ^ 31 }
+    requires copies { All HasCopies messages.now }
     ensures { IfOk result (λ v. v ≡ messages_from first tasks.now number messages.now) }
 {
     let mut numbered = Vec::new(alloc);
@@ -122,6 +125,7 @@ fn number_app(
 ) -> Result<App, AllocError>
     requires tasks { task + length app.now.tasks < 2 ^ 31 }
     requires messages { message + length app.now.messages < 2 ^ 31 }
+    requires copies { All HasCopies app.now.messages }
     ensures { IfOk result (λ a. a ≡ app_of nodes.now task message app.now) }
 {
     let tasks = NamedPlaces::of(alloc, app.tasks.as_slice())?;
@@ -144,6 +148,7 @@ fn number_apps(
 ) -> Result<ListOf<App>, AllocError>
     requires tasks { task + task_count mode.now < 2 ^ 31 }
     requires messages { message + message_count mode.now < 2 ^ 31 }
+    requires copies { HaveCopies mode.now.apps }
     ensures { IfOk result (λ v. v ≡ apps_from nodes.now task message mode.now.apps) }
 {
     let mut numbered = Vec::new(alloc);
@@ -191,6 +196,7 @@ fn number_mode(
 ) -> Result<Mode, AllocError>
     requires tasks { task + task_count mode.now < 2 ^ 31 }
     requires messages { message + message_count mode.now < 2 ^ 31 }
+    requires copies { HaveCopies mode.now.apps }
     ensures { IfOk result (λ m. m ≡ mode_of nodes.now task message mode.now) }
 {
     Ok(Mode {
@@ -207,6 +213,7 @@ fn number_modes(
 ) -> Result<ListOf<Mode>, AllocError>
     requires tasks { sum_by task_count raw.now.modes < 2 ^ 31 }
     requires messages { sum_by message_count raw.now.modes < 2 ^ 31 }
+    requires copies { All (λ mode. HaveCopies mode.apps) raw.now.modes }
     ensures { IfOk result (λ v. v ≡ modes_from nodes.now 0 0 raw.now.modes) }
 {
     let mut numbered = Vec::new(alloc);
@@ -226,6 +233,7 @@ pub(crate) fn number_set(alloc: Global, raw: &RawSet) -> Result<ModeSet, AllocEr
     requires nodes { length raw.now.nodes < 2 ^ 31 }
     requires tasks { sum_by task_count raw.now.modes < 2 ^ 31 }
     requires messages { sum_by message_count raw.now.modes < 2 ^ 31 }
+    requires copies { All (λ mode. HaveCopies mode.apps) raw.now.modes }
     ensures { IfOk result (λ s. s ≡ set_of raw.now) }
 {
     let nodes = NamedPlaces::of(alloc, raw.nodes.as_slice())?;

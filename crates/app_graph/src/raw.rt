@@ -23,6 +23,8 @@ pub struct RawMessage {
     pub from: ListOf<Name>,
     /// The names of its consumers.
     pub to: ListOf<Name>,
+    /// How many round instances of a window carry it.
+    pub copies: i64,
 }
 
 /// An application as it is written.

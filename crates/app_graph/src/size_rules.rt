@@ -6,13 +6,13 @@ ghost use Rattle.std.specs.Str.{bytes_eq};
 ghost use Rattle.app_graph.specs.Checks.{Checks};
 ghost use Rattle.app_graph.specs.Hyperperiod.{lcm};
 ghost use Rattle.app_graph.specs.Rules.{each, unless};
-ghost use Rattle.app_graph.specs.ValueRules.{hyper_of, pairs_in, runs_in, size_values, sizes_at};
+ghost use Rattle.app_graph.specs.ValueRules.{hyper_of, pairs_in, runs_in, size_values, sizes_at, slots_in, slots_of};
 
 use crate::checks::few;
 use crate::faults::GraphFault;
 use crate::keys::Key;
 use crate::names::is_same;
-use crate::raw::{RawApp, RawMode, RawSet, RawTask};
+use crate::raw::{RawApp, RawMessage, RawMode, RawSet, RawTask};
 use std::alloc::Global;
 use tick_num::lcm_up_to;
 
@@ -63,18 +63,29 @@ fn left_after_runs(apps: &[RawApp], hyper: u64, limit: u64) -> Option<u64>
     Some(left)
 }
 
-/// What is left of the limit after the message instances of a hyperperiod; None where they are above it.
-fn left_after_instances(apps: &[RawApp], hyper: u64, limit: u64) -> Option<u64>
+/// What is left of the limit after the copies of the messages, which come `each` times; None where they are above it.
+#[tactic(auto, unfolding(crate::specs::ValueRules::slots_of))]
+fn left_after_copies(messages: &[RawMessage], each: u64, limit: u64) -> Option<u64>
+    ensures { let n = slots_of each messages.now in
+        MatchOption result (limit < n) (λ left. left + n ≡ limit) }
+{
+    let mut left = limit;
+    for message in messages {
+        left = left.checked_sub(message.copies.unsigned_abs().checked_mul(each)?)?;
+    }
+    Some(left)
+}
+
+/// What is left of the limit after the copies of messages in a hyperperiod; None where they are above it.
+fn left_after_messages(apps: &[RawApp], hyper: u64, limit: u64) -> Option<u64>
     requires { All (λ a. pos 0 <ℤ a.period) apps.now }
-    ensures { let n = runs_in hyper (λ a. length a.messages) apps.now in MatchOption result (limit < n) (λ left. left + n ≡ limit) }
+    ensures { let n = slots_in hyper apps.now in
+        MatchOption result (limit < n) (λ left. left + n ≡ limit) }
 {
     let mut left = limit;
     for app in apps {
-        left = less(
-            left,
-            app.messages.as_slice().len(),
-            hyper / app.period.unsigned_abs(),
-        )?;
+        let each = hyper / app.period.unsigned_abs();
+        left = left_after_copies(app.messages.as_slice(), each, left)?;
     }
     Some(left)
 }
@@ -125,9 +136,9 @@ fn left_after_pairs(apps: &[RawApp], limit: u64) -> Option<u64>
 /// What is left of the limit after the message instances and the pairs of tasks on one node; None where they are above it.
 fn left_after_decisions(apps: &[RawApp], hyper: u64, limit: u64) -> Option<u64>
     requires { All (λ a. pos 0 <ℤ a.period) apps.now }
-    ensures { let n = runs_in hyper (λ a. length a.messages) apps.now + pairs_in (flat_map (λ a. a.tasks) apps.now) in MatchOption result (limit < n) (λ left. left + n ≡ limit) }
+    ensures { let n = slots_in hyper apps.now + pairs_in (flat_map (λ a. a.tasks) apps.now) in MatchOption result (limit < n) (λ left. left + n ≡ limit) }
 {
-    left_after_pairs(apps, left_after_instances(apps, hyper, limit)?)
+    left_after_pairs(apps, left_after_messages(apps, hyper, limit)?)
 }
 
 /// The deadline of the application is within the hyperperiod.
@@ -158,18 +169,18 @@ fn runs_fit(apps: &[RawApp], hyper: u64) -> bool
     left_after_runs(apps, hyper, 4096).is_some()
 }
 
-/// Whether the message instances of a hyperperiod are within their limit.
+/// Whether the copies of messages in a hyperperiod are within their limit.
 fn instances_fit(apps: &[RawApp], hyper: u64) -> bool
     requires { All (λ a. pos 0 <ℤ a.period) apps.now }
-    ensures { result ≡ nat_le (runs_in hyper (λ a. length a.messages) apps.now) 512 }
+    ensures { result ≡ nat_le (slots_in hyper apps.now) 512 }
 {
-    left_after_instances(apps, hyper, 512).is_some()
+    left_after_messages(apps, hyper, 512).is_some()
 }
 
-/// Whether the message instances of a hyperperiod and the pairs of tasks on one node are within their limit.
+/// Whether the copies of messages in a hyperperiod and the pairs of tasks on one node are within their limit.
 fn decisions_fit(apps: &[RawApp], hyper: u64) -> bool
     requires { All (λ a. pos 0 <ℤ a.period) apps.now }
-    ensures { result ≡ nat_le (runs_in hyper (λ a. length a.messages) apps.now + pairs_in (flat_map (λ a. a.tasks) apps.now)) 4096 }
+    ensures { result ≡ nat_le (slots_in hyper apps.now + pairs_in (flat_map (λ a. a.tasks) apps.now)) 4096 }
 {
     left_after_decisions(apps, hyper, 4096).is_some()
 }

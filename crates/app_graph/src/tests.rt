@@ -23,6 +23,7 @@ struct Sample<'a> {
     message: &'a str,
     from: &'a [&'a str],
     to: &'a [&'a str],
+    copies: i64,
 }
 
 fn name(alloc: Global, text: &str) -> Result<Name, AllocError> {
@@ -61,6 +62,7 @@ fn build(alloc: Global, sample: &Sample) -> Result<RawSet, AllocError> {
         name: name(alloc, sample.message)?,
         from: names(alloc, sample.from)?,
         to: names(alloc, sample.to)?,
+        copies: sample.copies,
     };
     let app = RawApp {
         name: name(alloc, sample.app)?,
@@ -139,6 +141,7 @@ fn base<'a>() -> Sample<'a> {
         message: "m",
         from: &["a"],
         to: &["b"],
+        copies: 1,
     }
 }
 
@@ -578,6 +581,34 @@ fn messages_and_graphs(rt: HostRuntime) -> Result<(), Fail> {
 }
 
 #[test]
+fn copies_out_of_range(rt: HostRuntime) -> Result<(), Fail> {
+    let b = base();
+    for copies in [-1, 0, 5] {
+        assert!(rt;
+            gives(
+                rt.alloc(),
+                &Sample { copies, ..b },
+                "out of range",
+                "copies"
+            )?
+        );
+    }
+    assert!(rt;
+        gives(
+            rt.alloc(),
+            &Sample {
+                to: &["x"],
+                copies: 0,
+                ..b
+            },
+            "unknown",
+            "x"
+        )?
+    );
+    Ok(())
+}
+
+#[test]
 fn queries(rt: HostRuntime) -> Result<(), Fail> {
     let raw = build(rt.alloc(), &base())?;
     let Ok(set) = validate(rt.alloc(), &raw) else {
@@ -641,6 +672,7 @@ fn crowd_messages(alloc: Global, crowd: Crowd) -> Result<ListOf<RawMessage>, All
                 crowd.tasks.saturating_sub(crowd.to),
                 crowd.tasks,
             )?,
+            copies: 1,
         })?;
     }
     Ok(ListOf::from_vec(list))
@@ -803,6 +835,7 @@ fn chain_mode(
             name: name(alloc, format!(in alloc; "m{i}")?.as_str())?,
             from: names(alloc, &[from])?,
             to: names(alloc, &[to])?,
+            copies: 1,
         })?;
     }
     let app = RawApp {

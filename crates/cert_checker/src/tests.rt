@@ -62,6 +62,7 @@ fn messages(alloc: Global, rows: &[(&str, &str, &str)]) -> Result<ListOf<RawMess
             name: name(alloc, message)?,
             from: names(alloc, &[from])?,
             to: names(alloc, &[to])?,
+            copies: 1,
         })?;
     }
     Ok(ListOf::from_vec(list))

@@ -19,13 +19,13 @@ same_map f g [] h = refl
 same_map f g (x ∷ xs) h = ap (λ y. y ∷ map f xs) (h x) ∙ ap (λ ys. g x ∷ ys) (same_map f g xs h)
 
 abbrev pub message_of : List TaskOfApp → App → Message → PlainMessage
-message_of ts app msg = record { number = msg.number; period = unsigned_abs app.period; deadline = unsigned_abs app.deadline; from = map (place_of ts) msg.from; to = map (place_of ts) msg.to }
+message_of ts app msg = record { number = msg.number; period = unsigned_abs app.period; deadline = unsigned_abs app.deadline; copies = msg.copies; from = map (place_of ts) msg.from; to = map (place_of ts) msg.to }
 
 pub same_message : (ts : List TaskOfApp) (app : App) (msg : Message) → message_in (map plain_task ts) app msg ≡ message_of ts app msg
 same_message ts app msg =
-    ap (λ (l : List ℕ). let m : PlainMessage = record { number = msg.number; period = unsigned_abs app.period; deadline = unsigned_abs app.deadline; from = l; to = map (place_in (map plain_task ts)) msg.to } in m)
+    ap (λ (l : List ℕ). let m : PlainMessage = record { number = msg.number; period = unsigned_abs app.period; deadline = unsigned_abs app.deadline; copies = msg.copies; from = l; to = map (place_in (map plain_task ts)) msg.to } in m)
     (same_map (place_in (map plain_task ts)) (place_of ts) msg.from (same_place ts))
-    ∙ ap (λ (l : List ℕ). let m : PlainMessage = record { number = msg.number; period = unsigned_abs app.period; deadline = unsigned_abs app.deadline; from = map (place_of ts) msg.from; to = l } in m)
+    ∙ ap (λ (l : List ℕ). let m : PlainMessage = record { number = msg.number; period = unsigned_abs app.period; deadline = unsigned_abs app.deadline; copies = msg.copies; from = map (place_of ts) msg.from; to = l } in m)
     (same_map (place_in (map plain_task ts)) (place_of ts) msg.to (same_place ts))
 
 -- the messages are the same out of the tasks in plain numbers

@@ -17,7 +17,7 @@ task_in place app task = plain_task (record { place = place; app = app; task = t
 
 -- a message of the application, where the mode has these tasks
 abbrev pub message_in : List PlainTask → App → Message → PlainMessage
-message_in ts app msg = record { number = msg.number; period = unsigned_abs app.period; deadline = unsigned_abs app.deadline; from = map (place_in ts) msg.from; to = map (place_in ts) msg.to }
+message_in ts app msg = record { number = msg.number; period = unsigned_abs app.period; deadline = unsigned_abs app.deadline; copies = msg.copies; from = map (place_in ts) msg.from; to = map (place_in ts) msg.to }
 
 -- a mode of the set's network with these periods, tasks and messages
 abbrev pub mode_with : ModeSet → List ℕ → List PlainTask → List PlainMessage → PlainMode

@@ -55,7 +55,7 @@ impl Model for FlatMessage {
 
     ghost Value = { PlainMessage };
 
-    ghost view = { λ m. record { number = m.number; period = m.period; deadline = m.deadline; from = m.from.items; to = m.to.items } };
+    ghost view = { λ m. record { number = m.number; period = m.period; deadline = m.deadline; copies = m.copies; from = m.from.items; to = m.to.items } };
 }
 
 /// A mode. Times are in ticks.

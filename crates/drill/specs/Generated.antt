@@ -47,6 +47,7 @@ raw_message i = record {
   name = lettered (codes "x") i;
   from = lettered (codes "s") i ∷ [];
   to = lettered (codes "c") i ∷ [];
+  copies = pos 1;
 }
 
 -- application i of mode m
@@ -92,7 +93,7 @@ drill_task seed letter i node n =
 -- the message with the number n of application i, from the task with the number t to the next one
 abbrev pub drill_message : ℕ → ℕ → ℕ → Message
 drill_message i t n =
-    record { name = lettered (codes "x") i; from = t ∷ []; to = (t + 1) ∷ []; number = n }
+    record { name = lettered (codes "x") i; from = t ∷ []; to = (t + 1) ∷ []; number = n; copies = 1 }
 
 -- application i of mode m
 abbrev pub drill_app : ℕ → ℕ → ℕ → App

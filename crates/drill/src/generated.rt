@@ -79,6 +79,7 @@ fn message(alloc: Global, i: u64) -> Result<RawMessage, AllocError>
         name: lettered(alloc, b"x", i)?,
         from: ListOf::from_vec(vec![in alloc; sender]?),
         to: ListOf::from_vec(vec![in alloc; receiver]?),
+        copies: 1,
     })
 }
 

@@ -117,7 +117,7 @@ abbrev pub raw_task : Members → RawTask
 raw_task ms = record { name = text_at ms KName; node = text_at ms KNode; wcet = integer_at ms KWcet; body = text_or (codes "tally") ms KBody }
 
 abbrev pub raw_message : Members → RawMessage
-raw_message ms = record { name = text_at ms KName; from = texts_at ms KFrom; to = texts_at ms KTo }
+raw_message ms = record { name = text_at ms KName; from = texts_at ms KFrom; to = texts_at ms KTo; copies = pos 1 }
 
 abbrev pub raw_app : Members → RawApp
 raw_app ms = record {

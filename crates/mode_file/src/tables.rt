@@ -81,6 +81,7 @@ impl FromTable for RawMessage {
             name: Name::copied(alloc, name.as_bytes())?,
             from,
             to,
+            copies: 1,
         })
     }
 }

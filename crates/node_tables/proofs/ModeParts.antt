@@ -87,7 +87,7 @@ abbrev no_task_in : TaskIn
 no_task_in = record { app = no_app; task = record { name = []; node = 0; wcet = pos 0; body = []; number = 0 } }
 
 abbrev no_message_in : MessageIn
-no_message_in = record { app = no_app; message = record { name = []; from = []; to = []; number = 0 } }
+no_message_in = record { app = no_app; message = record { name = []; from = []; to = []; number = 0; copies = 0 } }
 
 -- a known number is that of the task at its place
 pub number_there : (ts : List TaskIn) (n : ℕ) → place_in ts n < length ts → (get_or ts (place_in ts n) no_task_in).task.number ≡ n

@@ -76,13 +76,14 @@ fn message(
     to: u32,
     number: u32,
 ) -> Result<Message, AllocError>
-    ensures { IfOk result (λ m. m ≡ record { name = text.now; from = from ∷ []; to = to ∷ []; number = number }) }
+    ensures { IfOk result (λ m. m ≡ record { name = text.now; from = from ∷ []; to = to ∷ []; number = number; copies = 1 }) }
 {
     Ok(Message {
         name: name(alloc, text)?,
         from: one(alloc, from)?,
         to: one(alloc, to)?,
         number,
+        copies: 1,
     })
 }
 

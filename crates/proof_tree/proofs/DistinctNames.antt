@@ -82,7 +82,7 @@ no_true b e f = absurd cc
 
 new_apart : (ms : List RawMessage) → New [] ms → Apart (map raw_name ms)
 new_apart ms new i j less l same =
-    let d : RawMessage = record { name = []; from = []; to = [] } in
+    let d : RawMessage = record { name = []; from = []; to = []; copies = pos 0 } in
     let within : j < length ms = omega (arith, l, length-map ms raw_name) in
     let low : i < length ms = omega (arith, less, within) in
     let x = get_or ms j d in
@@ -132,14 +132,14 @@ number message = message.number
 abbrev pub plain_number : PlainMessage → ℕ
 plain_number message = message.number
 
-plain_from : (ts : List TaskOfApp) (a : App) (ms : List Message) → map plain_number (map (λ msg. record { number = msg.number; period = unsigned_abs a.period; deadline = unsigned_abs a.deadline; from = map (place_of ts) msg.from; to = map (place_of ts) msg.to }) ms) ≡ map number ms
+plain_from : (ts : List TaskOfApp) (a : App) (ms : List Message) → map plain_number (map (λ msg. record { number = msg.number; period = unsigned_abs a.period; deadline = unsigned_abs a.deadline; copies = msg.copies; from = map (place_of ts) msg.from; to = map (place_of ts) msg.to }) ms) ≡ map number ms
 plain_from ts a [] = refl
 plain_from ts a (m ∷ ms) = ap (λ (l : List ℕ). m.number ∷ l) (plain_from ts a ms)
 
 pub plain_numbers : (ts : List TaskOfApp) (apps : List App) → map plain_number (plain_messages ts apps) ≡ map number (messages_in apps)
 plain_numbers ts [] = refl
 plain_numbers ts (a ∷ apps) =
-    let plain : Message → PlainMessage = λ msg. record { number = msg.number; period = unsigned_abs a.period; deadline = unsigned_abs a.deadline; from = map (place_of ts) msg.from; to = map (place_of ts) msg.to } in
+    let plain : Message → PlainMessage = λ msg. record { number = msg.number; period = unsigned_abs a.period; deadline = unsigned_abs a.deadline; copies = msg.copies; from = map (place_of ts) msg.from; to = map (place_of ts) msg.to } in
     map-append plain_number (map plain a.messages) (plain_messages ts apps)
     ∙ ap (λ (l : List ℕ). l ++ map plain_number (plain_messages ts apps)) (plain_from ts a a.messages)
     ∙ ap (λ (l : List ℕ). map number a.messages ++ l) (plain_numbers ts apps)

@@ -44,7 +44,7 @@ count_tasks n (a ∷ apps) =
 count_messages : (ts : List TaskOfApp) (apps : List App) → length (messages_in apps) ≡ length (plain_messages ts apps)
 count_messages ts [] = refl
 count_messages ts (a ∷ apps) =
-    let plain : Message → PlainMessage = λ msg. record { number = msg.number; period = unsigned_abs a.period; deadline = unsigned_abs a.deadline; from = map (place_of ts) msg.from; to = map (place_of ts) msg.to } in
+    let plain : Message → PlainMessage = λ msg. record { number = msg.number; period = unsigned_abs a.period; deadline = unsigned_abs a.deadline; copies = msg.copies; from = map (place_of ts) msg.from; to = map (place_of ts) msg.to } in
     omega (arith, length-append a.messages (messages_in apps), length-append (map plain a.messages) (plain_messages ts apps), length-map a.messages plain, count_messages ts apps)
 
 named : (set : ModeSet) (mode : Mode) → IsValid (plain_mode set mode) → IsNamed (doc_mode set mode)

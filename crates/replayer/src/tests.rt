@@ -37,6 +37,7 @@ fn message(alloc: Global, name: &str, number: u32) -> Result<Message, AllocError
         from: ListOf::from_vec(Vec::new(alloc)),
         to: ListOf::from_vec(Vec::new(alloc)),
         number,
+        copies: 1,
     })
 }
 

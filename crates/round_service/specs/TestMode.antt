@@ -17,7 +17,7 @@ half = record {
       period = pos 50;
       deadline = pos 50;
       tasks = record { name = codes "sense"; node = 0; wcet = pos 2; body = codes "tally"; number = 0 } ∷ record { name = codes "act"; node = 1; wcet = pos 1; body = codes "tally"; number = 1 } ∷ [];
-      messages = record { name = codes "m"; from = 0 ∷ []; to = 1 ∷ []; number = 0 } ∷ [];
+      messages = record { name = codes "m"; from = 0 ∷ []; to = 1 ∷ []; number = 0; copies = 1 } ∷ [];
     } ∷ record {
       name = codes "rare";
       period = pos 100;

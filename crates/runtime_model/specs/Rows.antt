@@ -28,8 +28,8 @@ loop_mode = record {
   tasks = record { number = 0; app = 0; node = 1; wcet = 2; period = 100; deadline = 100 }
       ∷ record { number = 1; app = 0; node = 0; wcet = 5; period = 100; deadline = 100 }
       ∷ record { number = 2; app = 0; node = 2; wcet = 1; period = 100; deadline = 100 } ∷ [];
-  messages = record { number = 0; period = 100; deadline = 100; from = 0 ∷ []; to = 1 ∷ [] }
-      ∷ record { number = 1; period = 100; deadline = 100; from = 1 ∷ []; to = 2 ∷ [] } ∷ [];
+  messages = record { number = 0; period = 100; deadline = 100; copies = 1; from = 0 ∷ []; to = 1 ∷ [] }
+      ∷ record { number = 1; period = 100; deadline = 100; copies = 1; from = 1 ∷ []; to = 2 ∷ [] } ∷ [];
 }
 
 abbrev pub loop_plan : Plan

@@ -16,7 +16,7 @@ abbrev pub no_raw_task : RawTask
 no_raw_task = record { name = []; node = []; wcet = pos 0; body = [] }
 
 abbrev pub no_raw_message : RawMessage
-no_raw_message = record { name = []; from = []; to = [] }
+no_raw_message = record { name = []; from = []; to = []; copies = pos 0 }
 
 abbrev pub nothing : TaskOfApp
 nothing = record { place = 0; app = record { name = []; period = pos 0; deadline = pos 0; tasks = []; messages = [] }; task = record { name = []; node = 0; wcet = pos 0; body = []; number = 0 } }
@@ -141,7 +141,7 @@ length-messages t m us (u ∷ ms) = ap suc (length-messages t (m + 1) us ms)
 
 module _ (nodes : List (List ℕ)) (ts : List TaskOfApp) where
   abbrev plain : RawApp → Message → PlainMessage
-  plain a u = record { number = u.number; period = unsigned_abs a.period; deadline = unsigned_abs a.deadline; from = map (place_of ts) u.from; to = map (place_of ts) u.to }
+  plain a u = record { number = u.number; period = unsigned_abs a.period; deadline = unsigned_abs a.deadline; copies = u.copies; from = map (place_of ts) u.from; to = map (place_of ts) u.to }
 
   message_from : (t m : ℕ) (a : RawApp) (ms : List RawMessage) (i : ℕ) → i < length ms →
       let x = get_or (map (plain a) (messages_from t a.tasks m ms)) i no_message in let u = get_or ms i no_raw_message in

@@ -99,7 +99,7 @@ abbrev sent : App → Message → MessageIn
 sent app m = record { app = app; message = m }
 
 abbrev plain_of : List TaskOfApp → App → Message → PlainMessage
-plain_of ts app msg = record { number = msg.number; period = unsigned_abs app.period; deadline = unsigned_abs app.deadline; from = map (place_of ts) msg.from; to = map (place_of ts) msg.to }
+plain_of ts app msg = record { number = msg.number; period = unsigned_abs app.period; deadline = unsigned_abs app.deadline; copies = msg.copies; from = map (place_of ts) msg.from; to = map (place_of ts) msg.to }
 
 same_map : {X Y : Type 0} (f g : X → Y) (xs : List X) → ((x : X) → f x ≡ g x) → map f xs ≡ map g xs
 same_map f g [] h = refl
@@ -108,9 +108,9 @@ same_map f g (x ∷ xs) h = ap (λ y. y ∷ map f xs) (h x) ∙ ap (λ ys. g x �
 module _ (ts : List TaskOfApp) (us : List TaskIn) (same : (n : ℕ) → place_in us n ≡ place_of ts n) where
   one_message : (app : App) (m : Message) → plain_message us (sent app m) ≡ plain_of ts app m
   one_message app m =
-      ap (λ (l : List ℕ). let x : PlainMessage = record { number = m.number; period = unsigned_abs app.period; deadline = unsigned_abs app.deadline; from = l; to = map (place_in us) m.to } in x)
+      ap (λ (l : List ℕ). let x : PlainMessage = record { number = m.number; period = unsigned_abs app.period; deadline = unsigned_abs app.deadline; copies = m.copies; from = l; to = map (place_in us) m.to } in x)
       (same_map (place_in us) (place_of ts) m.from same)
-      ∙ ap (λ (l : List ℕ). let x : PlainMessage = record { number = m.number; period = unsigned_abs app.period; deadline = unsigned_abs app.deadline; from = map (place_of ts) m.from; to = l } in x)
+      ∙ ap (λ (l : List ℕ). let x : PlainMessage = record { number = m.number; period = unsigned_abs app.period; deadline = unsigned_abs app.deadline; copies = m.copies; from = map (place_of ts) m.from; to = l } in x)
       (same_map (place_in us) (place_of ts) m.to same)
 
   message_part : (app : App) (ms : List Message) → map (plain_message us) (map (sent app) ms) ≡ map (plain_of ts app) ms
@@ -170,7 +170,7 @@ module _ (set : ModeSet) (i : ℕ) where
     pub message_is : (j : ℕ) → j < length (messages_in apps) → message_at (plain_at set i) j ≡ plain_message (tasks_in apps) (message_in apps j)
     message_is j h =
         ap (λ (xs : List PlainMessage). get_or xs j no_message) messages_are
-        ∙ get_or-map (plain_message (tasks_in apps)) (messages_in apps) j (record { app = no_app; message = record { name = []; from = []; to = []; number = 0 } }) no_message h
+        ∙ get_or-map (plain_message (tasks_in apps)) (messages_in apps) j (record { app = no_app; message = record { name = []; from = []; to = []; number = 0; copies = 0 } }) no_message h
 
     pub shows_message : (j : ℕ) → j < length (messages_in apps) → ShowsMessage (tasks_in apps) (message_in apps j) (message_at (plain_at set i) j)
     shows_message j h =

@@ -19,7 +19,7 @@ sum_by-cons f x xs = let e = sum_by-append f (x ∷ []) xs in omega (arith, e)
 
 -- a message of an application, as one of the mode
 abbrev plain : List TaskOfApp → ℕ → ℕ → Message → PlainMessage
-plain ts period deadline u = record { number = u.number; period = period; deadline = deadline; from = map (place_of ts) u.from; to = map (place_of ts) u.to }
+plain ts period deadline u = record { number = u.number; period = period; deadline = deadline; copies = u.copies; from = map (place_of ts) u.from; to = map (place_of ts) u.to }
 
 abbrev in_app : ℕ → App → Task → TaskOfApp
 in_app i app u = record { place = i; app = app; task = u }

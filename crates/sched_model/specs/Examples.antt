@@ -19,7 +19,7 @@ task number node wcet period = record { number = number; app = 0; node = node; w
 
 -- a message from one task to one
 abbrev pub message : ℕ → ℕ → ℕ → ℕ → PlainMessage
-message number period from to = record { number = number; period = period; deadline = period; from = from ∷ []; to = to ∷ [] }
+message number period from to = record { number = number; period = period; deadline = period; copies = 1; from = from ∷ []; to = to ∷ [] }
 
 -- a control loop over three nodes: sensing, control, acting
 abbrev pub loop : PlainMode
@@ -49,7 +49,7 @@ loop_set = record {
       tasks = record { name = codes "sense"; node = 1; wcet = pos 2; body = codes "tally"; number = 0 }
           ∷ record { name = codes "ctrl"; node = 0; wcet = pos 5; body = codes "tally"; number = 1 }
           ∷ record { name = codes "act"; node = 2; wcet = pos 1; body = codes "tally"; number = 2 } ∷ [];
-      messages = record { name = codes "m1"; from = 0 ∷ []; to = 1 ∷ []; number = 0 } ∷ record { name = codes "m2"; from = 1 ∷ []; to = 2 ∷ []; number = 1 } ∷ [];
+      messages = record { name = codes "m1"; from = 0 ∷ []; to = 1 ∷ []; number = 0; copies = 1 } ∷ record { name = codes "m2"; from = 1 ∷ []; to = 2 ∷ []; number = 1; copies = 1 } ∷ [];
     } ∷ [];
   } ∷ [];
 }

@@ -18,11 +18,13 @@ pub record PlainTask : Type 0 where
   pub period : ℕ
   pub deadline : ℕ
 
--- a message: its number over the file, its application's period and deadline, and the places of its producers and consumers
+-- a message: its number over the file, its application's period and deadline, how many round instances of a window carry it,
+-- and the places of its producers and consumers
 pub record PlainMessage : Type 0 where
   pub number : ℕ
   pub period : ℕ
   pub deadline : ℕ
+  pub copies : ℕ
   pub from : List ℕ
   pub to : List ℕ
 
@@ -41,7 +43,7 @@ no_task = record { number = 0; app = 0; node = 0; wcet = 0; period = 0; deadline
 
 -- what stands for a message past the last one
 abbrev pub no_message : PlainMessage
-no_message = record { number = 0; period = 0; deadline = 0; from = []; to = [] }
+no_message = record { number = 0; period = 0; deadline = 0; copies = 0; from = []; to = [] }
 
 -- the task at this place
 abbrev pub task_at : PlainMode → ℕ → PlainTask
@@ -91,7 +93,7 @@ plain_task t = record { number = t.task.number; app = t.place; node = t.task.nod
 
 -- all messages of applications, in file order, where the mode has these tasks
 abbrev pub plain_messages : List TaskOfApp → List App → List PlainMessage
-plain_messages ts apps = flat_map (λ app. map (λ msg. record { number = msg.number; period = unsigned_abs app.period; deadline = unsigned_abs app.deadline; from = map (place_of ts) msg.from; to = map (place_of ts) msg.to }) app.messages) apps
+plain_messages ts apps = flat_map (λ app. map (λ msg. record { number = msg.number; period = unsigned_abs app.period; deadline = unsigned_abs app.deadline; copies = msg.copies; from = map (place_of ts) msg.from; to = map (place_of ts) msg.to }) app.messages) apps
 
 -- the plain mode of a mode of the set
 abbrev pub plain_mode : ModeSet → Mode → PlainMode

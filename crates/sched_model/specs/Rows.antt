@@ -36,7 +36,7 @@ task_in apps a = slice_index_or (tasks_in apps) a (record { app = no_app; task =
 
 -- the message at this place
 abbrev pub message_in : List App → ℕ → MessageIn
-message_in apps i = slice_index_or (messages_in apps) i (record { app = no_app; message = record { name = []; from = []; to = []; number = 0 } })
+message_in apps i = slice_index_or (messages_in apps) i (record { app = no_app; message = record { name = []; from = []; to = []; number = 0; copies = 0 } })
 
 -- the row of a task
 abbrev pub row_of : TaskIn → TaskRow
@@ -54,7 +54,7 @@ index_of (t ∷ ts) number = cond (nat_eq t.number number) 0 (suc (index_of ts n
 
 -- the message in plain numbers, where these are the tasks of its mode
 abbrev pub plain_message : List TaskIn → MessageIn → PlainMessage
-plain_message ts m = record { number = m.message.number; period = unsigned_abs m.app.period; deadline = unsigned_abs m.app.deadline; from = map (place_in ts) m.message.from; to = map (place_in ts) m.message.to }
+plain_message ts m = record { number = m.message.number; period = unsigned_abs m.app.period; deadline = unsigned_abs m.app.deadline; copies = m.message.copies; from = map (place_in ts) m.message.from; to = map (place_in ts) m.message.to }
 
 -- these are the numbers of the message, and the numbers of its producers and its consumers, which are tasks of the mode
 pub record ShowsMessage (ts : List TaskIn) (m : MessageIn) (msg : PlainMessage) : Type 0 where

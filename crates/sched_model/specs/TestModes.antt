@@ -22,7 +22,7 @@ loop_with gap = record {
       tasks = record { name = codes "sense"; node = 1; wcet = pos 2; body = codes "tally"; number = 0 }
           ∷ record { name = codes "ctrl"; node = 0; wcet = pos 5; body = codes "tally"; number = 1 }
           ∷ record { name = codes "act"; node = 2; wcet = pos 1; body = codes "tally"; number = 2 } ∷ [];
-      messages = record { name = codes "m1"; from = 0 ∷ []; to = 1 ∷ []; number = 0 } ∷ record { name = codes "m2"; from = 1 ∷ []; to = 2 ∷ []; number = 1 } ∷ [];
+      messages = record { name = codes "m1"; from = 0 ∷ []; to = 1 ∷ []; number = 0; copies = 1 } ∷ record { name = codes "m2"; from = 1 ∷ []; to = 2 ∷ []; number = 1; copies = 1 } ∷ [];
     } ∷ [];
   } ∷ [];
 }
