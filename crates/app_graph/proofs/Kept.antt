@@ -148,7 +148,7 @@ set_slots set e =
     (omega (arith, ints, low), omega (arith, ints, high))
 
 -- ---- the copies of messages
-message_copies : (app : RawApp) (earlier : List RawMessage) (m : RawMessage) → message_values app earlier m ≡ None → HasCopies m
+pub message_copies : (app : RawApp) (earlier : List RawMessage) (m : RawMessage) → message_values app earlier m ≡ None → HasCopies m
 message_copies app earlier m e =
     let k = (all_kept (message_rules app earlier m) e).1.1.1.0 in
     let w = unless_kept (within (pos 1) (pos most_copies) m.copies) (OutOfRange KCopies) k in

@@ -7,7 +7,7 @@ use Rattle.std.proofs.lemmas.List.Elements.{All-from_recursion, All-get_or}
 use Rattle.node_use.specs.Between.{IsTimed}
 use Rattle.round_service.specs.Serving.{IsServable, most_choice}
 use Rattle.sched_model.specs.Numbers.{span}
-use Rattle.sched_model.specs.PlainMode.{PlainMode, hyper, task_at, message_at, instance_count}
+use Rattle.sched_model.specs.PlainMode.{PlainMode, hyper, task_at, message_at, copy_count}
 use Rattle.sched_model.specs.ConstraintProblem.{Decision, serve, order, decisions, place, places, alternatives_of}
 use Rattle.sched_model.specs.OpenPrefix.{Chosen}
 use Rattle.sched_model.specs.ModeLimits.{IsLimited}
@@ -41,19 +41,20 @@ servable m r i ok lim some most l =
       hyper = (hyper_some m, ok.hyper_limit);
       period = (ok.periods _ (ok.message_period i l), (lim.periods _ (ok.message_period i l)).1);
       deadline = message_deadline m i ok l;
+      copies = ok.copies i l;
     }
 
 -- ---- which decision stands at a place
 pub at_serve : (m : PlainMode) (x i k : ℕ) → x < length (decisions m) → serve i k ≡ get_or (decisions m) x (order 0 0)
-    → (i < length m.messages) × (k < instance_count m (message_at m i)) × (x ≡ place m i k)
+    → (i < length m.messages) × (k < copy_count m (message_at m i)) × (x ≡ place m i k)
 at_serve m x i k l e =
     ⊎_elim
-    (λ (w : (a b : ℕ) × (a < length m.messages) × (b < instance_count m (message_at m a)) × (x ≡ place m a b)).
+    (λ (w : (a b : ℕ) × (a < length m.messages) × (b < copy_count m (message_at m a)) × (x ≡ place m a b)).
     let same : serve w.0 w.1 ≡ serve i k = sym (decision_at m w.0 w.1 (order 0 0) w.2 w.3) ∙ ap (λ y. get_or (decisions m) y (order 0 0)) (sym w.4) ∙ sym e in
     let ei : w.0 ≡ i = cc in
     let ek : w.1 ≡ k = cc in (
       omega (arith, w.2, ei),
-      subst (λ y. k < instance_count m (message_at m y)) ei (subst (λ y. y < instance_count m (message_at m w.0)) ek w.3),
+      subst (λ y. k < copy_count m (message_at m y)) ei (subst (λ y. y < copy_count m (message_at m w.0)) ek w.3),
       w.4 ∙ ap (λ y. place m y w.1) ei ∙ ap (λ y. place m i y) ek,
     ))
     (λ (w : (a b : ℕ) × (get_or (decisions m) x (order 0 0) ≡ order a b)). absurd (let wrong : serve i k ≡ order w.0 w.1 = e ∙ w.2 in cc))
@@ -76,7 +77,7 @@ abbrev IsSmallChoice : ℤ → Type 0
 IsSmallChoice g = (pos 1 ≤ℤ g) × (g ≤ℤ pos 1000000000000000)
 
 small_choice : (m : PlainMode) (r : ℕ) (ok : IsValid m) (lim : IsLimited m) (some : 1 ≤ r) (most : r ≤ 256) (p : List ℤ) → length p ≤ length (decisions m) → Chosen m r p
-    → (i k : ℕ) → i < length m.messages → k < instance_count m (message_at m i) → place m i k < length p → IsSmallChoice (get_or p (place m i k) (pos 0))
+    → (i k : ℕ) → i < length m.messages → k < copy_count m (message_at m i) → place m i k < length p → IsSmallChoice (get_or p (place m i k) (pos 0))
 small_choice m r ok lim some most p fits ch i k li lk l =
     let b = serve_bounds m r ok lim some p fits ch i k li lk l in
     let s = servable m r i ok lim some most li in
@@ -113,10 +114,10 @@ pair_choice m r p x a b fits ch l e =
     let n : length (take x p) ≡ x = length-take-le x p (omega (arith, l)) in
     subst (λ (d : Decision). Contains (alternatives_of m r d (take x p)) (get_or p x (pos 0))) (ap (λ y. get_or (decisions m) y (order 0 0)) n ∙ sym e) (ch x l)
 
-pub instance_choice : (m : PlainMode) (r : ℕ) (ok : IsValid m) (lim : IsLimited m) (some : 1 ≤ r) (p : List ℤ) (x i k : ℕ) → length p ≤ length (decisions m) → Chosen m r p → x < length p
+pub copy_choice : (m : PlainMode) (r : ℕ) (ok : IsValid m) (lim : IsLimited m) (some : 1 ≤ r) (p : List ℤ) (x i k : ℕ) → length p ≤ length (decisions m) → Chosen m r p → x < length p
     → serve i k ≡ get_or (decisions m) x (order 0 0)
-    → (i < length m.messages) × (k < instance_count m (message_at m i)) × (pos 1 ≤ℤ get_or p x (pos 0)) × (get_or p x (pos 0) ≤ℤ pos (most_choice (numbers_at m r i)))
-instance_choice m r ok lim some p x i k fits ch l e =
+    → (i < length m.messages) × (k < copy_count m (message_at m i)) × (pos 1 ≤ℤ get_or p x (pos 0)) × (get_or p x (pos 0) ≤ℤ pos (most_choice (numbers_at m r i)))
+copy_choice m r ok lim some p x i k fits ch l e =
     let w = at_serve m x i k (omega (arith, l, fits)) e in
     let b = serve_bounds m r ok lim some p fits ch i k w.0 w.1 (omega (arith, l, w.2)) in
     let y = ((message_at m i).period + (message_at m i).deadline) / hyper m in

@@ -3,7 +3,7 @@ use Rattle.std.proofs.Common.{◌≡◌, ℕ, zero, suc, ◌+◌, ◌*◌, ◌<�
 use Rattle.std.specs.List.{flat_map}
 use Rattle.std.proofs.lemmas.List.{map-append}
 use Rattle.sched_model.specs.Numbers.{below}
-use Rattle.sched_model.specs.PlainMode.{PlainMode, message_at, instance_count}
+use Rattle.sched_model.specs.PlainMode.{PlainMode, message_at, copy_count}
 use Rattle.sched_model.specs.ConstraintProblem.{decisions, serves, orders, place}
 use Rattle.sched_model.specs.PrintedSchedule.{table_of, schedule_of}
 use Rattle.sched_model.specs.declared.schedule.Schedule.{Schedule}
@@ -11,7 +11,7 @@ use Rattle.sched_model.proofs.Lists.{part_fits, flat_below-suc}
 use Rattle.sched_model.proofs.Places.{length-serves}
 
 -- the choices for a message's instances stand among those for all decisions
-pub serves_fit : (m : PlainMode) (i : ℕ) → i < length m.messages → place m i 0 + instance_count m (message_at m i) ≤ length (decisions m)
+pub serves_fit : (m : PlainMode) (i : ℕ) → i < length m.messages → place m i 0 + copy_count m (message_at m i) ≤ length (decisions m)
 unfolding decisions
 serves_fit m i l =
     let e = part_fits (serves m) (length m.messages) i l in
@@ -20,7 +20,7 @@ serves_fit m i l =
     omega (arith, e, n, s)
 
 -- those for the next message's come after them
-pub next_serves : (m : PlainMode) (i first next : ℕ) → first ≡ place m i 0 → next ≡ first + instance_count m (message_at m i) → next ≡ place m (i + 1) 0
+pub next_serves : (m : PlainMode) (i first next : ℕ) → first ≡ place m i 0 → next ≡ first + copy_count m (message_at m i) → next ≡ place m (i + 1) 0
 next_serves m i first next e s =
     let a : length (flat_map (serves m) (below (suc i))) ≡ length (flat_map (serves m) (below i)) + length (serves m i)
     = ap length (flat_below-suc (serves m) i) ∙ length-append (flat_map (serves m) (below i)) (serves m i) in

@@ -10,4 +10,4 @@ times_at m a = record { period = (task_at m a).period; deadline = (task_at m a).
 
 -- those of message i, for r rounds
 abbrev pub numbers_at : PlainMode → ℕ → ℕ → MessageTimes
-numbers_at m r i = record { rounds = r; round = m.round; hyper = hyper m; period = (message_at m i).period; deadline = (message_at m i).deadline }
+numbers_at m r i = record { rounds = r; round = m.round; hyper = hyper m; period = (message_at m i).period; deadline = (message_at m i).deadline; copies = (message_at m i).copies }

@@ -2,7 +2,7 @@
 
 ghost use Rattle.std.specs.Prelude.{◌≡◌, ℕ, [], ◌+◌, ◌-◌, ◌<◌, ◌≤◌, Contains, length, slice_index_or, pos, ◌+ℤ◌, ◌-ℤ◌, ◌≤ℤ◌};
 ghost use Rattle.sched_model.specs.Numbers.{span};
-ghost use Rattle.sched_model.specs.PlainMode.{hyper, instance_count, message_at, task_at};
+ghost use Rattle.sched_model.specs.PlainMode.{hyper, copy_count, message_at, task_at};
 ghost use Rattle.sched_model.specs.ConstraintProblem.{alternatives_of, chosen, decisions, order, places, serve};
 ghost use Rattle.sched_model.specs.OpenPrefix.{Chosen};
 ghost use Rattle.sched_model.specs.ModeLimits.{IsLimited};
@@ -51,6 +51,7 @@ fn numbers_of(frame: &Frame, rounds: Rounds, place: u32) -> MessageTimes
         hyper: frame.ticks(),
         period: message.period(),
         deadline: message.deadline(),
+        copies: message.copies(),
     }
 }
 
@@ -66,7 +67,7 @@ fn pair_alternatives(frame: &Frame, first: u32, second: u32) -> (i64, i64)
     places_of(one, two)
 }
 
-/// The alternatives of a message's first instance.
+/// The alternatives of a message's first copy.
 fn first_alternatives(frame: &Frame, rounds: Rounds, message: u32) -> (i64, i64)
     requires { message < length frame.now.messages }
     ensures { span result.0 result.1 ≡ alternatives_of frame.now rounds (serve message 0) [] }
@@ -75,46 +76,46 @@ fn first_alternatives(frame: &Frame, rounds: Rounds, message: u32) -> (i64, i64)
     first_choices(numbers)
 }
 
-/// The alternatives of a later instance, after these choices.
-fn later_alternatives(rounds: Rounds, prefix: &[i64], instance: usize) -> (i64, i64)
-    requires instance { (1 ≤ instance) × (instance ≤ length prefix.now) }
+/// The alternatives of a later copy, after these choices.
+fn later_alternatives(rounds: Rounds, prefix: &[i64], copy: usize) -> (i64, i64)
+    requires copy { (1 ≤ copy) × (copy ≤ length prefix.now) }
     requires previous { (pos 1 ≤ℤ slice_index_or prefix.now (length prefix.now - 1) (pos 0))
         × (slice_index_or prefix.now (length prefix.now - 1) (pos 0) ≤ℤ pos 1000000000000000) }
-    requires first { (pos 1 ≤ℤ slice_index_or prefix.now (length prefix.now - instance) (pos 0))
-        × (slice_index_or prefix.now (length prefix.now - instance) (pos 0)
+    requires first { (pos 1 ≤ℤ slice_index_or prefix.now (length prefix.now - copy) (pos 0))
+        × (slice_index_or prefix.now (length prefix.now - copy) (pos 0)
         ≤ℤ pos 1000000000000000) }
 
     ensures low { result.0 ≡ slice_index_or prefix.now (length prefix.now - 1) (pos 0) +ℤ pos 1 }
-    ensures high { result.1 ≡ slice_index_or prefix.now (length prefix.now - instance) (pos 0)
+    ensures high { result.1 ≡ slice_index_or prefix.now (length prefix.now - copy) (pos 0)
         +ℤ pos rounds -ℤ pos 1 }
 {
     let previous = prefix[prefix.len() - 1];
-    let first = prefix[prefix.len() - instance];
+    let first = prefix[prefix.len() - copy];
     later_choices(rounds.get() as u64, previous, first)
 }
 
-/// The alternatives of an instance of a message, after the choices for the decisions before it.
+/// The alternatives of a copy of a message, after the choices for the decisions before it.
 fn serve_alternatives(
     frame: &Frame,
     rounds: Rounds,
     message: u32,
-    instance: u64,
+    copy: u64,
     prefix: &[i64],
 ) -> (i64, i64)
     requires more { length prefix.now < length (decisions frame.now) }
     requires chosen { Chosen frame.now rounds prefix.now }
-    requires decision { serve message instance
+    requires decision { serve message copy
         ≡ slice_index_or (decisions frame.now) (length prefix.now) (order 0 0) }
 
     ensures { span result.0 result.1 ≡ alternatives_of frame.now rounds
-        (serve message instance) prefix.now }
+        (serve message copy) prefix.now }
 {
-    if instance == 0 {
+    if copy == 0 {
         return first_alternatives(frame, rounds, message);
     }
     frame.kept();
     let _some = rounds.get();
-    later_alternatives(rounds, prefix, instance as usize)
+    later_alternatives(rounds, prefix, copy as usize)
 }
 
 /// The alternatives of a decision, after the choices for the decisions before it.
@@ -133,8 +134,8 @@ pub(crate) fn alternatives_at(
         (decision_of choice) prefix.now }
 {
     match choice {
-        Choice::Serve(message, instance) => serve_alternatives(
-            frame, rounds, message, instance, prefix,
+        Choice::Serve(message, copy) => serve_alternatives(
+            frame, rounds, message, copy, prefix,
         ),
         Choice::Order(first, second) => pair_alternatives(frame, first, second),
     }
@@ -156,19 +157,19 @@ fn pair_diffs(frame: &Frame, rounds: Rounds, first: u32, second: u32, z: i64) ->
     order_diffs(earlier, later, one, two, divisor, z)
 }
 
-/// The two constraints of the choice `g` for an instance of a message.
-fn instance_diffs(frame: &Frame, rounds: Rounds, message: u32, instance: u64, g: i64) -> [Diff; 2]
+/// The two constraints of the choice `g` for a copy of a message.
+fn copy_diffs(frame: &Frame, rounds: Rounds, message: u32, copy: u64, g: i64) -> [Diff; 2]
     requires message { message < length frame.now.messages }
-    requires instance { instance < instance_count frame.now (message_at frame.now message) }
+    requires copy { copy < copy_count frame.now (message_at frame.now message) }
     requires least { pos 1 ≤ℤ g }
     requires most { g ≤ℤ pos (most_choice (numbers_at frame.now rounds message)) }
 
-    ensures { result ≡ chosen frame.now rounds (serve message instance) g }
+    ensures { result ≡ chosen frame.now rounds (serve message copy) g }
 {
     let opens = frame.opens_var(rounds, message);
     let closes = frame.closes_var(rounds, message);
     let numbers = numbers_of(frame, rounds, message);
-    serve_diffs(opens, closes, numbers, instance, g)
+    serve_diffs(opens, closes, numbers, copy, g)
 }
 
 /// The two constraints of a choice for the decision that stands at the place `at`, after the choices for those before it.
@@ -191,7 +192,7 @@ pub(crate) fn diffs_at(
     let _some = rounds.get();
     let value = prefix[at];
     match choice {
-        Choice::Serve(message, instance) => instance_diffs(frame, rounds, message, instance, value),
+        Choice::Serve(message, copy) => copy_diffs(frame, rounds, message, copy, value),
         Choice::Order(first, second) => pair_diffs(frame, rounds, first, second, value),
     }
 }
@@ -205,7 +206,7 @@ pub(crate) fn diffs_of(frame: &Frame, rounds: Rounds, choice: Choice, value: i64
     ensures { result ≡ chosen frame.now rounds (decision_of choice) value }
 {
     match choice {
-        Choice::Serve(message, instance) => instance_diffs(frame, rounds, message, instance, value),
+        Choice::Serve(message, copy) => copy_diffs(frame, rounds, message, copy, value),
         Choice::Order(first, second) => pair_diffs(frame, rounds, first, second, value),
     }
 }

@@ -1,4 +1,4 @@
-//! The decisions of a mode: its message instances, then its pairs of tasks on one node, in file order.
+//! The decisions of a mode: the copies of its messages, then its pairs of tasks on one node, in file order.
 
 ghost use Rattle.std.specs.Prelude.{◌≡◌, [], ◌∷◌, ◌++◌, ◌+◌, ◌<◌, ◌≤◌, IfOk, length, map, slice_index_or};
 ghost use Rattle.std.specs.List.{flat_map};
@@ -16,7 +16,7 @@ use std::marker::Model;
 /// What is to be decided. Messages and tasks go by their places in the mode.
 #[derive(Clone, Copy, Drop)]
 pub(crate) enum Choice {
-    /// The round instance that carries an instance of a message.
+    /// The round instance that carries a copy of a message, counted over its windows.
     Serve(u32, u64),
     /// The place of the second task's runs between those of the first.
     Order(u32, u32),
@@ -72,27 +72,27 @@ impl Decisions {
     }
 }
 
-/// Adds the instances of a message.
-fn add_serves(list: &mut Decisions, message: u32, instances: u64) -> Result<(), AllocError>
-    ensures { IfOk result (λ _. list.new ≡ list.old ++ map (serve message) (below instances)) }
+/// Adds the copies of a message.
+fn add_serves(list: &mut Decisions, message: u32, copies: u64) -> Result<(), AllocError>
+    ensures { IfOk result (λ _. list.new ≡ list.old ++ map (serve message) (below copies)) }
 {
-    for instance in 0..instances {
-        list.push(Choice::Serve(message, instance))?;
+    for copy in 0..copies {
+        list.push(Choice::Serve(message, copy))?;
     }
     Ok(())
 }
 
-/// Adds the instances of the message at the place.
+/// Adds the copies of the message at the place.
 fn add_message(list: &mut Decisions, frame: &Frame, message: u32) -> Result<(), AllocError>
     requires message { message < length frame.now.messages }
     ensures { IfOk result (λ _. list.new ≡ list.old ++ serves frame.now message) }
 {
-    let period = frame.message(message).period();
-    add_serves(list, message, frame.ticks() / period)?;
+    let count = frame.copies_of(message);
+    add_serves(list, message, count)?;
     Ok(())
 }
 
-/// Adds the instances of the messages.
+/// Adds the copies of the messages.
 fn add_messages(list: &mut Decisions, frame: &Frame) -> Result<(), AllocError>
     ensures { IfOk result (λ _. list.new
         ≡ list.old ++ flat_map (serves frame.now) (below (length frame.now.messages))) }

@@ -44,6 +44,8 @@ pub(crate) struct FlatMessage {
     pub(crate) period: u64,
     /// The deadline of its application.
     pub(crate) deadline: u64,
+    /// How many round instances of a window carry it.
+    pub(crate) copies: u32,
     /// The places of its producers.
     pub(crate) from: Vec<u32>,
     /// The places of its consumers.
@@ -157,6 +159,7 @@ fn make_message(
         number: message.number,
         period: period_of(app),
         deadline: deadline_of(app),
+        copies: message.copies,
         from: find_tasks(alloc, tasks, message.from.as_slice())?,
         to: find_tasks(alloc, tasks, message.to.as_slice())?,
     })
@@ -361,6 +364,13 @@ impl FlatMessage {
         ensures { result ≡ self.now.deadline }
     {
         self.deadline
+    }
+
+    /// How many round instances of a window carry it.
+    pub(crate) fn copies(&self) -> u32
+        ensures { result ≡ self.now.copies }
+    {
+        self.copies
     }
 
     /// The places of its producers.

@@ -3,7 +3,7 @@
 ghost use Rattle.std.specs.Prelude.{◌≡◌, ◌+◌, ◌<◌, ◌≤◌, All, IfOk, length, map};
 ghost use Rattle.app_graph.specs.Validation.{KeepsRules};
 ghost use Rattle.sched_model.specs.Numbers.{below};
-ghost use Rattle.sched_model.specs.PlainMode.{hyper, instances, message_at, plain_at, task_at};
+ghost use Rattle.sched_model.specs.PlainMode.{copy_count, hyper, instances, message_at, plain_at, task_at};
 ghost use Rattle.sched_model.specs.ConstraintProblem.{closes_var, opens_var, task_var};
 ghost use Rattle.sched_model.specs.Links.{graph_of};
 ghost use Rattle.sched_model.specs.ModeLimits.{IsLimited};
@@ -141,7 +141,18 @@ impl Frame {
         self.ticks
     }
 
-    /// How many instances all messages have in a hyperperiod.
+    /// How many slots the message at the place needs in a hyperperiod: in each window one for each copy.
+    #[tactic(auto, using(crate::proofs::BaseLists::message_some))]
+    pub(crate) fn copies_of(&self, message: u32) -> u64
+        requires { message < length self.now.messages }
+        ensures { result ≡ copy_count self.now (message_at self.now message) }
+    {
+        self.kept();
+        let message = self.message(message);
+        u64::from(message.copies()) * (self.ticks / message.period())
+    }
+
+    /// How many slots all messages need in a hyperperiod.
     pub(crate) fn instances(&self) -> u64
         ensures { result ≡ instances self.now }
     {

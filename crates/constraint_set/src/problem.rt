@@ -132,7 +132,7 @@ impl Problem {
         self.frame.slots()
     }
 
-    /// Whether the rounds have too few slots for the instances of all messages.
+    /// Whether the rounds have too few slots for the copies of all messages.
     pub fn short_of_slots(&self) -> bool
         ensures { IsTrue result
             ↔ (self.now.rounds * self.now.mode.slots < instances self.now.mode) }

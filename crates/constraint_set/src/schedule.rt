@@ -4,7 +4,7 @@ ghost use Rattle.std.specs.Prelude.{◌≡◌, [], ◌∷◌, ◌++◌, ◌+◌,
 ghost use Rattle.std.specs.List.{list_any};
 ghost use Rattle.tick_num.specs.Differences.{listed};
 ghost use Rattle.sched_model.specs.Numbers.{below, natural};
-ghost use Rattle.sched_model.specs.PlainMode.{hyper, instance_count, message_at};
+ghost use Rattle.sched_model.specs.PlainMode.{hyper, copy_count, message_at};
 ghost use Rattle.sched_model.specs.ConstraintProblem.{choice, closes_var, decisions, opens_var, place, vars};
 ghost use Rattle.sched_model.specs.PrintedSchedule.{names, schedule_of, table_of};
 ghost use Rattle.sched_model.specs.ModeLimits.{IsLimited};
@@ -87,15 +87,14 @@ fn add_named(
     requires full { length choices.now ≡ length (decisions frame.now) }
 
     ensures { IfOk result (λ next.
-        (next ≡ first + instance_count frame.now (message_at frame.now message))
+        (next ≡ first + copy_count frame.now (message_at frame.now message))
         × (numbers.new.items ≡ numbers.old.items
         ++ cond (names frame.now rounds choices.now round message)
         ((message_at frame.now message).number ∷ []) [])) }
 {
-    let message = frame.message(message);
-    let count = frame.ticks() / message.period();
+    let count = frame.copies_of(message);
     if is_named(choices, first, count, rounds, round) {
-        numbers.push(message.number())?;
+        numbers.push(frame.message(message).number())?;
     }
     Ok(first + count as usize)
 }

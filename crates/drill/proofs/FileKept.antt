@@ -4,7 +4,7 @@ use Rattle.app_graph.specs.Hyperperiod.{hyperperiod}
 use Rattle.app_graph.specs.declared.faults.GraphFault.TheVariants.{OutOfRange, TooMany}
 use Rattle.app_graph.specs.declared.keys.Key.TheVariants.{KApp, KMode}
 use Rattle.app_graph.specs.Rules.{unless, each_after}
-use Rattle.app_graph.specs.ValueRules.{named, has_some, at_most, is_mode, app_values, hyper_of, sizes_at, round_values, node_values, mode_rules, mode_values, set_rules, value_rules}
+use Rattle.app_graph.specs.ValueRules.{named, has_some, at_most, is_mode, app_values, hyper_of, sizes_at, round_values, node_values, mode_rules, mode_values, set_rules, value_rules, slots_of}
 use Rattle.ttw_text.specs.Numbers.{spelled}
 use Rattle.drill.specs.Generated.{below, raw_app, raw_mode, drill_raw}
 use Rattle.drill.proofs.Tables.{each_none}
@@ -25,7 +25,7 @@ unfolding raw_mode below spelled
 name_kept seed = each_none _ 8 refl
 
 hyper_is : (seed m : ℕ) → hyper_of (raw_mode seed m) ≡ 1000
-unfolding raw_mode below hyperperiod
+unfolding raw_mode below hyperperiod slots_of
 hyper_is seed m = refl
 
 sizes_kept : (seed m : ℕ) → sizes_at 1000 (drill_raw seed) (raw_mode seed m) ≡ None

@@ -10,6 +10,7 @@ use Rattle.app_graph.specs.declared.raw.RawSet.{RawSet}
 use Rattle.app_graph.specs.declared.mode_set.Mode.{Mode}
 use Rattle.app_graph.specs.declared.mode_set.ModeSet.{ModeSet}
 use Rattle.app_graph.specs.Hyperperiod.{hyperperiod}
+use Rattle.app_graph.specs.ValueRules.{slots_of}
 use Rattle.app_graph.specs.Validation.{KeepsRules}
 use Rattle.sched_model.specs.declared.schedule.Schedule.{Schedule}
 use Rattle.sched_model.specs.PlainMode.{plain_at}
@@ -28,7 +29,7 @@ raw_loop = record {
     tasks = record { name = codes "sense"; node = codes "n1"; wcet = pos 2; body = codes "tally" }
         ∷ record { name = codes "ctrl"; node = codes "n0"; wcet = pos 5; body = codes "tally" }
         ∷ record { name = codes "act"; node = codes "n2"; wcet = pos 1; body = codes "tally" } ∷ [];
-    messages = record { name = codes "m1"; from = codes "sense" ∷ []; to = codes "ctrl" ∷ [] } ∷ record { name = codes "m2"; from = codes "ctrl" ∷ []; to = codes "act" ∷ [] } ∷ [];
+    messages = record { name = codes "m1"; from = codes "sense" ∷ []; to = codes "ctrl" ∷ []; copies = pos 1 } ∷ record { name = codes "m2"; from = codes "ctrl" ∷ []; to = codes "act" ∷ []; copies = pos 1 } ∷ [];
   } ∷ [];
 }
 
@@ -48,11 +49,11 @@ abbrev raw_with : List RawMode → RawSet
 raw_with modes = record { slots = pos 2; round = pos 20; gap = pos 100; host = codes "n0"; nodes = codes "n0" ∷ codes "n1" ∷ codes "n2" ∷ []; modes = modes }
 
 pub loop_kept : KeepsRules (set_with (loop_mode ∷ []))
-unfolding hyperperiod
+unfolding hyperperiod slots_of
 loop_kept = (raw_with (raw_loop ∷ []), refl, refl)
 
 pub both_kept : KeepsRules (set_with (loop_mode ∷ idle_mode ∷ []))
-unfolding hyperperiod
+unfolding hyperperiod slots_of
 both_kept = (raw_with (raw_loop ∷ raw_idle ∷ []), refl, refl)
 
 abbrev NumberIn : List ℕ → ℕ → Type 0

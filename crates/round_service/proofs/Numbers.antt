@@ -37,6 +37,10 @@ earlier_at_most k p h q l =
 pub earlier_most : (t : MessageTimes) (k : ℕ) → IsServable t → k < t.hyper / t.period → k * t.period < 1000000000000
 earlier_most t k w l = omega (arith, earlier_at_most k t.period t.hyper (omega (arith, w.period)) l, w.hyper)
 
+-- the window of a copy is one of the hyperperiod
+pub window_low : (t : MessageTimes) (x : ℕ) → IsServable t → x < t.copies * (t.hyper / t.period) → x / t.copies < t.hyper / t.period
+window_low t x w l = below_quotient x t.copies (t.hyper / t.period) (omega (arith, w.copies)) l
+
 quotient_most : (x h : ℕ) → 0 < h → x / h ≤ x
 quotient_most x h p = let n : x / h * 1 ≤ x / h * h = mul-le-mul_left (x / h) (omega arith) in omega (arith, n, times_quotient x h p)
 
@@ -55,10 +59,10 @@ natural_most (pos g) n b e h k = omega (arith, ints)
 natural_most (negsuc g) n b e h k = absurd (omega (arith, ints))
 
 -- the constraints, where their bounds are known
-pub same_served : (x y : ℕ) (t : MessageTimes) (k n : ℕ) (g c d : ℤ) → n ≡ natural g → c ≡ pos ((n - 1) / t.rounds * t.hyper) -ℤ pos (k * t.period) → d ≡ neg_ℤ c -ℤ pos t.round →
+pub same_served : (x y : ℕ) (t : MessageTimes) (k n : ℕ) (g c d : ℤ) → n ≡ natural g → c ≡ pos ((n - 1) / t.rounds * t.hyper) -ℤ pos (k / t.copies * t.period) → d ≡ neg_ℤ c -ℤ pos t.round →
     (diff x ((n - 1) % t.rounds) c ∷ diff ((n - 1) % t.rounds) y d ∷ []) ≡ served x y t k g
 same_served x y t k n g c d e f h = rw (h, f, e)
 
 -- ---- numbers that are those of a message of a mode
 pub choices_are : ChoicesAreDecisions
-choices_are m r i t e = (λ p. rw (e.rounds, e.period, e.deadline, e.hyper), λ k p. rw (e.rounds), λ k v. rw (e.rounds, e.round, e.period, e.hyper))
+choices_are m r i t e = (λ p. rw (e.rounds, e.period, e.deadline, e.hyper), λ k p. rw (e.rounds), λ k v. rw (e.rounds, e.round, e.period, e.hyper, e.copies))

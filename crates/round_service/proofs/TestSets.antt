@@ -3,8 +3,9 @@ use Rattle.std.proofs.Common.{◌≡◌, ℕ, ◌<◌, codes, [], ◌∷◌, lit
 use Rattle.app_graph.specs.declared.raw.RawSet.{RawSet}
 use Rattle.app_graph.specs.declared.mode_set.ModeSet.{ModeSet}
 use Rattle.app_graph.specs.Hyperperiod.{hyperperiod}
+use Rattle.app_graph.specs.ValueRules.{slots_of}
 use Rattle.app_graph.specs.Validation.{KeepsRules}
-use Rattle.sched_model.specs.PlainMode.{plain_at, message_at, hyper, instance_count}
+use Rattle.sched_model.specs.PlainMode.{plain_at, message_at, hyper, copy_count}
 use Rattle.sched_model.specs.Numbered.{IsMessageOf}
 use Rattle.sched_model.specs.TestModes.{loop_with}
 use Rattle.sched_model.proofs.TaskNumbers.{one_message}
@@ -28,7 +29,7 @@ raw_half = record {
       period = pos 50;
       deadline = pos 50;
       tasks = record { name = codes "sense"; node = codes "n0"; wcet = pos 2; body = codes "tally" } ∷ record { name = codes "act"; node = codes "n1"; wcet = pos 1; body = codes "tally" } ∷ [];
-      messages = record { name = codes "m"; from = codes "sense" ∷ []; to = codes "act" ∷ [] } ∷ [];
+      messages = record { name = codes "m"; from = codes "sense" ∷ []; to = codes "act" ∷ []; copies = pos 1 } ∷ [];
     } ∷ record {
       name = codes "rare";
       period = pos 100;
@@ -40,7 +41,7 @@ raw_half = record {
 }
 
 kept : KeepsRules half
-unfolding raw_half hyperperiod
+unfolding raw_half hyperperiod slots_of
 kept = (raw_half, refl, refl)
 
 pub half_rules : (set : ModeSet) → set ≡ half → KeepsRules set
@@ -49,11 +50,11 @@ half_rules set e = subst KeepsRules (sym e) kept
 first_there : (set : ModeSet) → set ≡ loop_with (pos 100) → IsMessageOf set 0 0 0
 first_there set e = subst (λ (x : ModeSet). IsMessageOf x 0 0 0) (sym e) (record { mode = lit< tt; place = lit< tt; is = refl })
 
-one_instance : 0 < instance_count (plain_at (loop_with (pos 100)) 0) (message_at (plain_at (loop_with (pos 100)) 0) 0)
+one_copy : 0 < copy_count (plain_at (loop_with (pos 100)) 0) (message_at (plain_at (loop_with (pos 100)) 0) 0)
 unfolding hyper
-one_instance = lit< tt
+one_copy = lit< tt
 
-pub instance_known : (set : ModeSet) → set ≡ loop_with (pos 100) → (a : ℕ) → IsMessageOf set 0 a 0 → 0 < instance_count (plain_at set 0) (message_at (plain_at set 0) a)
-instance_known set e a w =
-    subst (λ n. 0 < instance_count (plain_at set 0) (message_at (plain_at set 0) n)) (one_message set (loop_rules set e) 0 0 a 0 (first_there set e) w)
-    (subst (λ (x : ModeSet). 0 < instance_count (plain_at x 0) (message_at (plain_at x 0) 0)) (sym e) one_instance)
+pub copy_known : (set : ModeSet) → set ≡ loop_with (pos 100) → (a : ℕ) → IsMessageOf set 0 a 0 → 0 < copy_count (plain_at set 0) (message_at (plain_at set 0) a)
+copy_known set e a w =
+    subst (λ n. 0 < copy_count (plain_at set 0) (message_at (plain_at set 0) n)) (one_message set (loop_rules set e) 0 0 a 0 (first_there set e) w)
+    (subst (λ (x : ModeSet). 0 < copy_count (plain_at x 0) (message_at (plain_at x 0) 0)) (sym e) one_copy)

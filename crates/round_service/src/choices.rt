@@ -1,4 +1,4 @@
-//! Choices of round instances for a message's instances, over plain numbers. No call takes memory.
+//! Choices of round instances for the copies of a message, over plain numbers. No call takes memory.
 
 ghost use Rattle.std.specs.Prelude.{◌≡◌, ◌+◌, ◌*◌, ◌/◌, ◌<◌, ◌≤◌, All, count_by, length, pos, negsuc, neg_ℤ, ◌+ℤ◌, ◌-ℤ◌, ◌≤ℤ◌};
 ghost use Rattle.round_service.specs.Serving.{IsServable, most_choice, names_round, round_named, served};
@@ -18,9 +18,11 @@ pub struct MessageTimes {
     pub period: u64,
     /// Its deadline, at most 1,000,000,000,000.
     pub deadline: u64,
+    /// How many round instances of a window carry it, at least 1.
+    pub copies: u32,
 }
 
-/// The alternatives of a message's first instance in a hyperperiod: the least and the greatest round instance.
+/// The alternatives of a message's first copy in a hyperperiod: the least and the greatest round instance.
 pub fn first_choices(times: MessageTimes) -> (i64, i64)
     requires { IsServable times }
     ensures low { result.0 ≡ pos 1 }
@@ -30,7 +32,7 @@ pub fn first_choices(times: MessageTimes) -> (i64, i64)
     (1, (times.rounds * hyperperiods) as i64)
 }
 
-/// The alternatives of a later instance, after the choice `previous` for the instance before and `first` for the first one:
+/// The alternatives of a later copy, after the choice `previous` for the copy before and `first` for the first one:
 /// the least and the greatest round instance. There is none where the least is above the greatest.
 pub fn later_choices(rounds: u64, previous: i64, first: i64) -> (i64, i64)
     requires rounds { rounds ≤ 256 }
@@ -52,19 +54,19 @@ pub fn round_of_choice(g: i64, rounds: u64) -> u64
     (g.unsigned_abs() - 1) % rounds + 1
 }
 
-/// How far the times of an instance's window, moved into the hyperperiod of the round instance that `before` come before,
+/// How far the times of a window, moved into the hyperperiod of the round instance that `before` come before,
 /// are from those of the message's first window, in ticks.
 #[tactic(auto, using(crate::proofs::Numbers::passed_most, crate::proofs::Numbers::earlier_most))]
-fn shift(times: MessageTimes, instance: u64, before: u64) -> i64
+fn shift(times: MessageTimes, window: u64, before: u64) -> i64
     requires times { IsServable times }
-    requires instance { instance < times.hyper / times.period }
+    requires window { window < times.hyper / times.period }
     requires before { before < most_choice times }
-    ensures value { result ≡ pos (before / times.rounds * times.hyper) -ℤ pos (instance * times.period) }
+    ensures value { result ≡ pos (before / times.rounds * times.hyper) -ℤ pos (window * times.period) }
     ensures low { negsuc 1000000000000 ≤ℤ result }
     ensures high { result ≤ℤ pos 2001000000000 }
 {
     let passed = before / times.rounds * times.hyper;
-    let earlier = instance * times.period;
+    let earlier = window * times.period;
     passed as i64 - earlier as i64
 }
 
@@ -78,20 +80,21 @@ fn room_for(round: u64, moved: i64) -> i64
     -moved - round as i64
 }
 
-/// The two constraints of the choice `g` for an instance of a message: the round instance starts no earlier than
-/// the instance's window opens, and ends no later than it closes.
+/// The two constraints of the choice `g` for a copy of a message, counted over its windows: the round instance starts no earlier than
+/// the copy's window opens, and ends no later than it closes.
 /// `opens` and `closes` are the variables of the opening and the closing of the message's first window.
 #[tactic(auto, using(crate::proofs::Numbers::natural_most))]
-pub fn serve_diffs(opens: u32, closes: u32, times: MessageTimes, instance: u64, g: i64) -> [Diff; 2]
+pub fn serve_diffs(opens: u32, closes: u32, times: MessageTimes, copy: u64, g: i64) -> [Diff; 2]
     requires times { IsServable times }
-    requires instance { instance < times.hyper / times.period }
+    requires copy { copy < times.copies * (times.hyper / times.period) }
     requires least { pos 1 ≤ℤ g }
     requires most { g ≤ℤ pos (most_choice times) }
-    ensures { result ≡ served opens closes times instance g }
+    ensures { result ≡ served opens closes times copy g }
 {
     let before = g.unsigned_abs() - 1;
     let round = (before % times.rounds) as u32;
-    let moved = shift(times, instance, before);
+    let window = copy / u64::from(times.copies);
+    let moved = shift(times, window, before);
     let room = room_for(times.round, moved);
     [
         Diff {

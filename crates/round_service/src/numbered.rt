@@ -1,4 +1,4 @@
-//! The alternatives of a message's instances and the constraints of a choice, where messages go by their numbers over the file.
+//! The alternatives of a message's copies and the constraints of a choice, where messages go by their numbers over the file.
 //! No call takes memory.
 
 ghost use Rattle.std.specs.Prelude.{◌≡◌, ℕ, ℤ, List, ◌+◌, ◌*◌, ◌/◌, ◌<◌, ◌≤◌, All, length, pos, ◌≤ℤ◌};
@@ -6,7 +6,7 @@ ghost use Rattle.app_graph.specs.Validation.{KeepsRules};
 ghost use Rattle.sched_model.specs.ConstraintProblem.{alternatives_of, chosen, serve};
 ghost use Rattle.sched_model.specs.Numbered.{IsMessageOf};
 ghost use Rattle.sched_model.specs.Numbers.{span};
-ghost use Rattle.sched_model.specs.PlainMode.{hyper, instance_count, message_at, plain_at};
+ghost use Rattle.sched_model.specs.PlainMode.{hyper, copy_count, message_at, plain_at};
 ghost use Rattle.round_service.specs.Serving.{IsServable, Shows};
 
 use crate::choices::{MessageTimes, first_choices, later_choices, serve_diffs};
@@ -50,10 +50,11 @@ fn times_at(set: &ModeSet, mode: u32, rounds: u64, place: u32) -> MessageTimes
         hyper: ticks_of(set, mode),
         period: row.period,
         deadline: row.deadline,
+        copies: row.copies,
     }
 }
 
-/// The alternatives of the first instance of the message.
+/// The alternatives of the first copy of the message.
 fn first_of(set: &ModeSet, mode: u32, rounds: u64, message: u32) -> (i64, i64)
     requires rules { KeepsRules set.now }
     requires rounds { (1 ≤ rounds) × (rounds ≤ 256) }
@@ -65,8 +66,8 @@ fn first_of(set: &ModeSet, mode: u32, rounds: u64, message: u32) -> (i64, i64)
     first_choices(times_at(set, mode, rounds, place))
 }
 
-/// The alternatives of instance `i` of the message, from 0: the least and the greatest round instance. There is none where the least is
-/// above the greatest. `chosen` has the choices for the instances of the message before it. A hyperperiod has so many rounds, from 1 to 256.
+/// The alternatives of copy `i` of the message, from 0, counted over the windows of a hyperperiod: the least and the greatest round instance. There is none where the least is
+/// above the greatest. `chosen` has the choices for the copies of the message before it. A hyperperiod has so many rounds, from 1 to 256.
 pub fn alternatives(
     set: &ModeSet,
     mode: u32,
@@ -88,13 +89,14 @@ pub fn alternatives(
     later_choices(rounds, chosen[chosen.len() - 1], chosen[0])
 }
 
-/// The two constraints of the choice `g` for instance `i` of the message, in the variables of the mode's constraint problem for so many
+/// The two constraints of the choice `g` for copy `i` of the message, in the variables of the mode's constraint problem for so many
 /// rounds, from 1 to 256.
 pub fn diffs_of(set: &ModeSet, mode: u32, rounds: u64, message: u32, i: u64, g: i64) -> [Diff; 2]
     requires rules { KeepsRules set.now }
     requires rounds { (1 ≤ rounds) × (rounds ≤ 256) }
     requires message { (a : ℕ) × IsMessageOf set.now mode a message }
-    requires instance { (a : ℕ) → IsMessageOf set.now mode a message → i < instance_count (plain_at set.now mode) (message_at (plain_at set.now mode) a) }
+    requires copy { (a : ℕ) → IsMessageOf set.now mode a message
+        → i < copy_count (plain_at set.now mode) (message_at (plain_at set.now mode) a) }
     requires least { pos 1 ≤ℤ g }
     requires most { (a : ℕ) → IsMessageOf set.now mode a message → g ≤ℤ pos (rounds * (((message_at (plain_at set.now mode) a).period + (message_at (plain_at set.now mode) a).deadline) / hyper (plain_at set.now mode) + 2)) }
     ensures { (a : ℕ) → IsMessageOf set.now mode a message → result ≡ chosen (plain_at set.now mode) rounds (serve a i) g }

@@ -9,7 +9,10 @@ const TWICE: MessageTimes = MessageTimes {
     hyper: 100,
     period: 50,
     deadline: 50,
+    copies: 1,
 };
+
+const TWO_COPIES: MessageTimes = MessageTimes { copies: 2, ..TWICE };
 
 #[test]
 fn second_instance_alternatives(rt: HostRuntime) {
@@ -20,6 +23,16 @@ fn second_instance_alternatives(rt: HostRuntime) {
 #[test]
 fn second_round_of_the_next_hyperperiod(rt: HostRuntime) {
     let [opening, closing] = serve_diffs(7, 8, TWICE, 1, 5);
+    assert!(rt; opening == Diff { x: 7, y: 1, c: 50 });
+    assert!(rt; closing == Diff { x: 1, y: 8, c: -60 });
+}
+
+#[test]
+fn copies_of_one_window(rt: HostRuntime) {
+    let [opening, closing] = serve_diffs(7, 8, TWO_COPIES, 1, 2);
+    assert!(rt; opening == Diff { x: 7, y: 1, c: 0 });
+    assert!(rt; closing == Diff { x: 1, y: 8, c: -10 });
+    let [opening, closing] = serve_diffs(7, 8, TWO_COPIES, 2, 5);
     assert!(rt; opening == Diff { x: 7, y: 1, c: 50 });
     assert!(rt; closing == Diff { x: 1, y: 8, c: -60 });
 }

@@ -94,9 +94,9 @@ module _ (y : System) (right : AllRight y) (md st i k b : ℕ) (ok : RightPlan y
 
   slot_place : SlotPlace
   slot_place =
-      let one = ok.right.s7.windows i k il in
-      let g = one.0 in
-      let serves = one.1 in
+      let all = ok.right.s7.windows i k il in
+      let g = all.row 0 in
+      let serves = all.each 0 (ok.valid.copies i il) in
       let r = length p.schedule.starts in
       let some_rounds : 1 ≤ r = omega (arith, ok.right.shape.some, ok.right.shape.starts) in
       let n = (g - 1) / r in

@@ -13,8 +13,8 @@ use borrow.Author.Differences.{up, down}
 use Rattle.tick_num.specs.declared.differences.Diff.{Diff}
 use Rattle.tick_num.proofs.Floor.{floor_low, floor_high, sum-times}
 use Rattle.sched_model.specs.Numbers.{natural, gcd, span}
-use Rattle.sched_model.specs.PlainMode.{PlainMode, hyper, task_at, message_at, instance_count}
-use Rattle.sched_model.specs.ConstraintProblem.{base, Decision, serve, order, decisions, place, latest, places, alternatives_of, chosen, chosen_all, in_force}
+use Rattle.sched_model.specs.PlainMode.{PlainMode, hyper, task_at, message_at, instance_count, copy_count}
+use Rattle.sched_model.specs.ConstraintProblem.{base, Decision, serve, order, decisions, place, window_of, latest, places, alternatives_of, chosen, chosen_all, in_force}
 use Rattle.sched_model.specs.OpenPrefix.{Chosen}
 use Rattle.sched_model.specs.ProblemLimits.{IsSmall}
 use Rattle.sched_model.specs.ValidMode.{IsValid}
@@ -24,6 +24,7 @@ use Rattle.sched_model.proofs.Base.{base_all}
 use Rattle.sched_model.proofs.Graph.{message_edge}
 use Rattle.sched_model.proofs.Spans.{span_bounds}
 use Rattle.sched_model.proofs.Places.{decision_at}
+use Rattle.sched_model.proofs.Serving.{its_window}
 use Rattle.sched_model.proofs.Pairs.{gcd_is, gcd_some}
 use Rattle.sched_model.proofs.Hyperperiods.{period_divides}
 use Rattle.sched_model.proofs.Backward.{sorted_out}
@@ -115,18 +116,18 @@ module _ (m : PlainMode) (r : ℕ) (ok : IsValid m) (lim : IsLimited m) (some : 
 
   -- ---- the instance of a message
   module _ (p : List ℤ) (fits : length p ≤ length (decisions m)) (ch : Chosen m r p) where
-    among : (i k : ℕ) → i < length m.messages → k < instance_count m (message_at m i) → place m i k < length p →
+    among : (i k : ℕ) → i < length m.messages → k < copy_count m (message_at m i) → place m i k < length p →
         Contains (alternatives_of m r (serve i k) (take (place m i k) p)) (get_or p (place m i k) (pos 0))
     among i k li lk l =
         let x = place m i k in
         let e : length (take x p) ≡ x = length-take-le x p (omega (arith, l)) in
         subst (λ (d : Decision). Contains (alternatives_of m r d (take x p)) (get_or p x (pos 0))) (ap (λ y. get_or (decisions m) y (order 0 0)) e ∙ decision_at m i k (order 0 0) li lk) (ch x l)
 
-    first_bounds : (i : ℕ) → i < length m.messages → 0 < instance_count m (message_at m i) → place m i 0 < length p →
+    first_bounds : (i : ℕ) → i < length m.messages → 0 < copy_count m (message_at m i) → place m i 0 < length p →
         let msg = message_at m i in (pos 1 ≤ℤ get_or p (place m i 0) (pos 0)) × (get_or p (place m i 0) (pos 0) ≤ℤ pos (r * ((msg.period + msg.deadline) / hyper m + 1)))
     first_bounds i li lk l = let msg = message_at m i in span_bounds (pos 1) (pos (r * ((msg.period + msg.deadline) / hyper m + 1))) (get_or p (place m i 0) (pos 0)) (among i 0 li lk l)
 
-    pub serve_bounds : (i k : ℕ) → i < length m.messages → k < instance_count m (message_at m i) → place m i k < length p →
+    pub serve_bounds : (i k : ℕ) → i < length m.messages → k < copy_count m (message_at m i) → place m i k < length p →
         let msg = message_at m i in (pos 1 ≤ℤ get_or p (place m i k) (pos 0)) × (get_or p (place m i k) (pos 0) ≤ℤ (pos (r * ((msg.period + msg.deadline) / hyper m + 1)) +ℤ pos r))
     serve_bounds i zero li lk l = let b = first_bounds i li lk l in (b.0, omega (arith, ints, b.1))
     serve_bounds i (suc k) li lk l =
@@ -142,7 +143,7 @@ module _ (m : PlainMode) (r : ℕ) (ok : IsValid m) (lim : IsLimited m) (some : 
         let c = serve_bounds i k li (omega (arith, lk)) (omega (arith, l)) in
         (omega (arith, ints, b, before, c.0), omega (arith, ints, b, begin, a.1))
 
-    serve_small : (i k : ℕ) → i < length m.messages → k < instance_count m (message_at m i) → place m i k < length p → AllByRecursion IsSmall (chosen m r (serve i k) (get_or p (place m i k) (pos 0)))
+    serve_small : (i k : ℕ) → i < length m.messages → k < copy_count m (message_at m i) → place m i k < length p → AllByRecursion IsSmall (chosen m r (serve i k) (get_or p (place m i k) (pos 0)))
     serve_small i k li lk l =
         let msg = message_at m i in
         let h = hyper m in
@@ -157,12 +158,13 @@ module _ (m : PlainMode) (r : ℕ) (ok : IsValid m) (lim : IsLimited m) (some : 
         let a0 = ok.producer i li in
         let lt = (ok.edges a0.0 t.0 (message_edge m i a0.0 t.0 li a0.1 t.1)).to in
         let app = ok.consumer_app i t.0 li t.1 in
-        let windows : k * msg.period ≤ instance_count m msg * msg.period = mul-le-mul_right msg.period (omega (arith, lk)) in
+        let in_turn = (its_window msg.copies (instance_count m msg) k (ok.copies i li) lk).0 in
+        let windows : window_of m i k * msg.period ≤ instance_count m msg * msg.period = mul-le-mul_right msg.period (omega (arith, in_turn)) in
         let fill = period_divides m msg.period (ok.periods _ (ok.message_period i li)) (ok.message_period i li) in
         let period = (lim.periods _ (ok.message_period i li)).1 in
         let deadline : msg.deadline ≤ h = omega (arith, app.1, ok.deadline t.0 lt) in
         let late : (g - 1) / r * h ≤ 2001000000000 = omega (arith, turns, whole, period, deadline, ok.hyper_limit) in
-        let early : k * msg.period ≤ 1000000000000 = omega (arith, windows, fill, ok.hyper_limit) in
+        let early : window_of m i k * msg.period ≤ 1000000000000 = omega (arith, windows, fill, ok.hyper_limit) in
         ((omega (arith, ints, late, early), omega (arith, ints, late, early)), ((omega (arith, ints, late, early, lim.round), omega (arith, ints, late, early, lim.round)), tt))
       where
         natural_is : (z : ℤ) → pos 1 ≤ℤ z → pos (natural z) ≡ z
@@ -172,7 +174,7 @@ module _ (m : PlainMode) (r : ℕ) (ok : IsValid m) (lim : IsLimited m) (some : 
     choice_small : (x : ℕ) → x < length (decisions m) → x < length p → AllByRecursion IsSmall (chosen m r (get_or (decisions m) x (order 0 0)) (get_or p x (pos 0)))
     choice_small x l k =
         ⊎_elim
-        (λ (w : (i j : ℕ) × (i < length m.messages) × (j < instance_count m (message_at m i)) × (x ≡ place m i j)).
+        (λ (w : (i j : ℕ) × (i < length m.messages) × (j < copy_count m (message_at m i)) × (x ≡ place m i j)).
         subst (λ y. AllByRecursion IsSmall (chosen m r (get_or (decisions m) y (order 0 0)) (get_or p y (pos 0)))) (sym w.4)
         (subst (λ (d : Decision). AllByRecursion IsSmall (chosen m r d (get_or p (place m w.0 w.1) (pos 0)))) (sym (decision_at m w.0 w.1 (order 0 0) w.2 w.3)) (serve_small w.0 w.1 w.2 w.3 (omega (arith, k, w.4)))))
         (λ (w : (a b : ℕ) × (get_or (decisions m) x (order 0 0) ≡ order a b)).

@@ -10,12 +10,14 @@ use Rattle.sched_model.specs.Numbers.{distinct}
 use Rattle.sched_model.specs.PlainMode.{PlainMode, hyper, task_at, message_at, instance_count}
 use Rattle.sched_model.specs.TaskGraph.{first, last, Reaches, reaches}
 use Rattle.sched_model.specs.Rounds.{round_start, task_start, opens, closes}
-use Rattle.sched_model.specs.RightSchedule.{HasShape, RoundsFit, GapsFit, OffsetFits, MessageFits, ChainFits, RunsApart, TableFits, ExactlyOne, AllServed, IsSchedule}
+use Rattle.sched_model.specs.RightSchedule.{HasShape, RoundsFit, GapsFit, OffsetFits, MessageFits, ChainFits, RunsApart, TableFits, Exactly, AllServed, IsSchedule}
 use Rattle.sched_model.specs.OneHyperperiod.{Lists, window_then, EndsInWindow, ServesFirst, ServedOnce, EntriesFit}
 use Rattle.sched_model.specs.FirstBroken.{Keeps, BreaksFirst}
+use Rattle.sched_model.specs.ServedCounts.{how_many}
 use Rattle.sched_model.specs.ValidMode.{IsValid}
 use Rattle.sched_model.proofs.Graph.{reached, reaches_walk}
 use Rattle.sched_model.proofs.OneTurn.{classes_apart, windows, entries}
+use Rattle.sched_model.proofs.Exactly.{also, counted, one_count}
 
 -- it holds or it does not
 abbrev Decidable : Type 0 → Type 0
@@ -87,15 +89,25 @@ dec_some P (suc n) d =
     (dec_some P n d))
     (d n)
 
-dec_exactly : (P : ℕ → Type 0) (n : ℕ) → ((i : ℕ) → Decidable (P i)) → ((i : ℕ) → P i → i < n) → Decidable (ExactlyOne P)
-dec_exactly P n d low =
-    ⊎_elim
-    (λ (w : (i : ℕ) × (i < n) × P i).
-    dec_map {P = (h : ℕ) → h < n → P h → h ≡ w.0} {Q = ExactlyOne P}
-    (λ f. (w.0, w.2, λ h p. f h (low h p) p)) (λ e h l p. e.2 h p ∙ sym (e.2 w.0 w.2))
-    (dec_below (λ h. P h → h ≡ w.0) n (λ h l. dec_if (d h) (dec_nat h w.0))))
-    (λ (none : (i : ℕ) → i < n → P i → ⊥). inr (λ e. none e.0 (low e.0 e.1) e.1))
-    (dec_some P n d)
+-- ---- exactly so many numbers
+abbrev is_left : {A B : Type 0} → A ⊎ B → Bool
+is_left (inl a) = true
+is_left (inr b) = false
+
+left_true : {A : Type 0} (d : Decidable A) → A → is_left d ≡ true
+left_true (inl a) h = refl
+left_true (inr f) h = absurd (f h)
+
+true_left : {A : Type 0} (d : Decidable A) → is_left d ≡ true → A
+true_left (inl a) e = a
+true_left (inr f) e = absurd cc
+
+dec_exactly : (c : ℕ) (P : ℕ → Type 0) (n : ℕ) → ((i : ℕ) → Decidable (P i)) → ((i : ℕ) → P i → i < n) → Decidable (Exactly c P)
+dec_exactly c P n d low =
+    let t = λ (i : ℕ). is_left (d i) in
+    let count = how_many t n in
+    let e = also count (λ j. (j < n) × (t j ≡ true)) P (λ g w. true_left (d g) w.1) (λ g p. (low g p, left_true (d g) p)) (counted t n) in
+    dec_map {P = count ≡ c} {Q = Exactly c P} (λ same. subst (λ x. Exactly x P) same e) (λ f. one_count count c P e f) (dec_nat count c)
 
 -- ---- the clauses
 module _ (m : PlainMode) (s : Schedule) (ok : IsValid m) (shape : HasShape m (length s.starts) s) where
@@ -165,13 +177,13 @@ module _ (m : PlainMode) (s : Schedule) (ok : IsValid m) (shape : HasShape m (le
     dec_served =
         let n = length s.starts in
         let law = windows m (length s.starts) s ok shape rounds offsets messages in
-        let W = λ (i : ℕ). (k : ℕ) → k < instance_count m (message_at m i) → ExactlyOne (ServesFirst m s i k) in
+        let W = λ (i : ℕ). (k : ℕ) → k < instance_count m (message_at m i) → Exactly (message_at m i).copies (ServesFirst m s i k) in
         dec_map law.1 law.0 (dec_map {P = AllByRecursion (TableFits m) s.tables × ((i : ℕ) → i < length m.messages → W i)} {Q = ServedOnce m s}
         (λ w. record { tables = All-from_recursion (TableFits m) s.tables w.0; windows = λ i k l lk. w.1 i l k lk }) (λ o. (recursion_from_All (TableFits m) s.tables o.tables, λ i l k lk. o.windows i k l lk))
         (dec_both
         (dec_items (TableFits m) (λ t. dec_map {P = (length t < suc m.slots) × (distinct t ≡ true)} {Q = TableFits m t} (λ w. record { slots = omega (arith, w.0); once = w.1 }) (λ f. (omega (arith, f.slots), f.once)) (dec_both (dec_less (length t) (suc m.slots)) (dec_true (distinct t)))) s.tables)
-        (dec_below W (length m.messages) (λ i l. dec_below (λ k. ExactlyOne (ServesFirst m s i k)) (instance_count m (message_at m i)) (λ k lk.
-        dec_exactly (ServesFirst m s i k) n (λ j. dec_map {P = (j < n) × ((Lists m s i j) × ((window_then m s i j ≡ k) × EndsInWindow m s i j))} {Q = ServesFirst m s i k j}
+        (dec_below W (length m.messages) (λ i l. dec_below (λ k. Exactly (message_at m i).copies (ServesFirst m s i k)) (instance_count m (message_at m i)) (λ k lk.
+        dec_exactly (message_at m i).copies (ServesFirst m s i k) n (λ j. dec_map {P = (j < n) × ((Lists m s i j) × ((window_then m s i j ≡ k) × EndsInWindow m s i j))} {Q = ServesFirst m s i k j}
         (λ w. record { within = w.0; lists = w.1.0; which = w.1.1.0; ends = w.1.1.1 }) (λ f. (f.within, (f.lists, (f.which, f.ends))))
         (dec_both (dec_less j n) (dec_both (dec_true _) (dec_both (dec_nat (window_then m s i j) k) (dec_le _ _))))) (λ j f. f.within))))))
 

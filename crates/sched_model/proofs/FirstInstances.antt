@@ -4,7 +4,8 @@ use Rattle.std.proofs.lemmas.Int.{ints}
 use Rattle.std.proofs.lemmas.Bool.{cases_lt}
 use Rattle.std.proofs.lemmas.Nat.{div-add-mod', mod_below, mod-mul-add}
 use Rattle.std.proofs.Math.Nat.{mul-le-mul_right}
-use Rattle.sched_model.specs.RightSchedule.{ExactlyOne}
+use Rattle.sched_model.specs.RightSchedule.{Exactly}
+use Rattle.sched_model.proofs.Exactly.{through}
 use Rattle.sched_model.proofs.Serving.{Within, Repeats, moved}
 
 -- the first instance from the opening on of the round at place j, wait j hyperperiods late, and the window that has opened last by then
@@ -97,7 +98,7 @@ module _ (start : ℕ → ℤ) (r h n p t : ℕ) (o q : ℤ) (C : ℕ → Type 0
       (λ (early : start g <ℤ o). inr early)
       (from_first g one)
 
-  -- ---- every window has exactly one
+  -- ---- every window has as many
   -- what serves a window is the first of its round, some hyperperiods later
   taken_apart : (k g : ℕ) → ServesIn k g → (d : ℕ) × (g ≡ first ((g - 1) % r) + d * r) × (k ≡ window ((g - 1) % r) + d * n) × Ends ((g - 1) % r)
   taken_apart k g (one, c, w) =
@@ -116,38 +117,47 @@ module _ (start : ℕ → ℤ) (r h n p t : ℕ) (o q : ℤ) (C : ℕ → Type 0
       let same : d ≡ e = omega (arith, up, down) in
       (omega (arith, h, ap (λ x. x * n) same), same)
 
-  pub served_once : ((k : ℕ) → ExactlyOne (ServesIn k)) → (k : ℕ) → k < n → ExactlyOne (FirstIn k)
-  served_once all k l =
-      let g = (all k).0 in
-      let w = (all k).1 in
+  -- two that serve a window in one round are one
+  apart_rounds : (k g f : ℕ) → ServesIn k g → ServesIn k f → (g - 1) % r ≡ (f - 1) % r → g ≡ f
+  apart_rounds k g f a b same =
+      let j = (g - 1) % r in
+      let x = taken_apart k g a in
+      let y = taken_apart k f b in
+      let lj = mod_below (g - 1) r rep.rounds in
+      let there : k ≡ window j + y.0 * n = y.2 ∙ ap (λ z. window z + y.0 * n) (sym same) in
+      let e = (turn_of (window j) (window j) x.0 y.0 (fi.small j lj) (fi.small j lj) (sym x.2 ∙ there)).1 in
+      x.1 ∙ ap (λ z. first j + z * r) e ∙ ap (λ z. first z + y.0 * r) same ∙ sym y.1
+
+  pub served_once : (c : ℕ) → ((k : ℕ) → Exactly c (ServesIn k)) → (k : ℕ) → k < n → Exactly c (FirstIn k)
+  served_once c all k l =
+      through c (ServesIn k) (FirstIn k) (λ g. (g - 1) % r)
+      (λ g w.
       let j = (g - 1) % r in
       let lj = mod_below (g - 1) r rep.rounds in
       let x = taken_apart k g w in
-      let e : k + 0 * n ≡ window j + x.0 * n = omega (arith, x.2) in (
-        j,
-        (lj, w.1, sym (turn_of k (window j) 0 x.0 l (fi.small j lj) e).0, x.3),
-        λ i v.
-            let at = first i + 0 * r in
-            let serves : ServesIn k at = (omega arith, subst C (sym (round_of_first i 0 v.0)) v.1, subst (λ y. Within start t o q p y at) (let z : window i + 0 * n ≡ k = omega (arith, v.2) in z) (moved_window i 0 v.0 v.3)) in
-            sym (round_of_first i 0 v.0) ∙ ap (λ y. (y - 1) % r) ((all k).2 at serves),
-      )
+      let e : k + 0 * n ≡ window j + x.0 * n = omega (arith, x.2) in
+      (lj, w.1, sym (turn_of k (window j) 0 x.0 l (fi.small j lj) e).0, x.3))
+      (apart_rounds k)
+      (λ i v.
+      let at = first i + 0 * r in
+      let serves : ServesIn k at = (omega arith, subst C (sym (round_of_first i 0 v.0)) v.1, subst (λ y. Within start t o q p y at) (let z : window i + 0 * n ≡ k = omega (arith, v.2) in z) (moved_window i 0 v.0 v.3)) in
+      (at, serves, round_of_first i 0 v.0))
+      (all k)
 
-  pub all_served : ((k : ℕ) → k < n → ExactlyOne (FirstIn k)) → (k : ℕ) → ExactlyOne (ServesIn k)
-  all_served once k =
+  pub all_served : (c : ℕ) → ((k : ℕ) → k < n → Exactly c (FirstIn k)) → (k : ℕ) → Exactly c (ServesIn k)
+  all_served c once k =
       let i = k % n in
       let d = k / n in
       let li = mod_below k n rep.some in
-      let j = (once i li).0 in
-      let v = (once i li).1 in
-      let g = first j + d * r in
-      let e : window j + d * n ≡ k = omega (arith, v.2, div-add-mod' k n) in (
-        g,
-        (omega arith, subst C (sym (round_of_first j d v.0)) v.1, subst (λ y. Within start t o q p y g) e (moved_window j d v.0 v.3)),
-        λ f w.
-            let x = taken_apart k f w in
-            let b = (f - 1) % r in
-            let lb = mod_below (f - 1) r rep.rounds in
-            let same = turn_of (window b) i x.0 d (fi.small b lb) li (omega (arith, x.2, div-add-mod' k n)) in
-            let here : b ≡ j = (once i li).2 b (lb, w.1, same.0, x.3) in
-            x.1 ∙ ap (λ y. first y + x.0 * r) here ∙ ap (λ y. first j + y * r) same.1,
-      )
+      through c (FirstIn i) (ServesIn k) (λ j. first j + d * r)
+      (λ j v.
+      let e : window j + d * n ≡ k = omega (arith, v.2, div-add-mod' k n) in
+      (omega arith, subst C (sym (round_of_first j d v.0)) v.1, subst (λ y. Within start t o q p y (first j + d * r)) e (moved_window j d v.0 v.3)))
+      (λ j f v w same. sym (round_of_first j d v.0) ∙ ap (λ z. (z - 1) % r) same ∙ round_of_first f d w.0)
+      (λ g w.
+      let x = taken_apart k g w in
+      let b = (g - 1) % r in
+      let lb = mod_below (g - 1) r rep.rounds in
+      let same = turn_of (window b) i x.0 d (fi.small b lb) li (omega (arith, x.2, div-add-mod' k n)) in
+      (b, (lb, w.1, same.0, x.3), sym (x.1 ∙ ap (λ y. first b + y * r) same.1)))
+      (once i li)

@@ -13,18 +13,18 @@ use Rattle.app_graph.specs.declared.raw.RawMode.{RawMode}
 use Rattle.app_graph.specs.declared.raw.RawSet.{RawSet}
 use Rattle.app_graph.specs.declared.mode_set.App.{App}
 use Rattle.app_graph.specs.declared.mode_set.ModeSet.{ModeSet}
-use Rattle.app_graph.specs.ValueRules.{among, is_task, goes, has_cycle, hyper_of}
+use Rattle.app_graph.specs.ValueRules.{among, is_task, goes, has_cycle, hyper_of, most_copies}
 use Rattle.app_graph.specs.Cycles as walks
 use Rattle.app_graph.proofs.Levels.{cycle_law}
 use Rattle.app_graph.specs.Hyperperiod.{hyperperiod, lcm}
-use Rattle.app_graph.specs.Numbering.{task_place, apps_from, numbers_of}
+use Rattle.app_graph.specs.Numbering.{task_place, apps_from, numbers_of, HasCopies}
 use Rattle.sched_model.specs.PlainMode.{PlainMode, PlainTask, hyper, no_task, task_at, message_at, TaskOfApp, tasks_of, place_of, plain_task, plain_mode}
 use Rattle.sched_model.specs.TaskGraph.{IsEdge, Walk}
 use Rattle.sched_model.specs.ValidMode.{IsValid, Joins}
 use Rattle.sched_model.proofs.Tests.{passes}
 use Rattle.sched_model.proofs.Ranks.{rank, rank_low, rank_rises}
 use Rattle.sched_model.proofs.Graph.{edge_message}
-use Rattle.sched_model.proofs.KeptRules.{KeptEnds, KeptApp, KeptMode}
+use Rattle.sched_model.proofs.KeptRules.{KeptEnds, KeptApp, KeptMode, abs_within}
 use Rattle.sched_model.proofs.PlainPlaces.{no_raw_task, no_raw_message, nothing, At, task_there, task_found, one_app, at_all, place_at, IsMessage, message_found}
 
 -- ---- a known name has a place
@@ -148,6 +148,9 @@ module _ (raw : RawSet) (set : ModeSet) (nodes : List (List ℕ)) (mode : RawMod
   pub message_kept : (A : RawApp) (j : ℕ) → KeptApp A → j < length A.messages → let u = get_or A.messages j no_raw_message in KeptEnds 4 A u.from × KeptEnds 16 A u.to
   message_kept A j ok l = All-from_recursion (λ u. KeptEnds 4 A u.from × KeptEnds 16 A u.to) A.messages ok.messages j no_raw_message l
 
+  pub copies_kept : (A : RawApp) (j : ℕ) → KeptApp A → j < length A.messages → let n = unsigned_abs (get_or A.messages j no_raw_message).copies in (1 ≤ n) × (n ≤ most_copies)
+  copies_kept A j ok l = abs_within _ most_copies (All-from_recursion HasCopies A.messages ok.copies j no_raw_message l)
+
   -- the first one of a list of names
   has_one : (k : ℕ) (A : RawApp) (names : List (List ℕ)) (most : ℕ) → KeptEnds most A names → (a : ℕ) × Contains (map (place_of ts) (numbers_of (t + k) A.tasks names)) a
   has_one k A names most ends =
@@ -259,6 +262,7 @@ module _ (raw : RawSet) (set : ModeSet) (nodes : List (List ℕ)) (mode : RawMod
         let e = ap (λ y. (task_at m y).deadline) f.5 in
         let d = at_all (λ A. unsigned_abs A.deadline ≤ hyper_of mode) mode.apps kept.sizes.deadlines f.0 f.2 f.3 in
         omega (arith, e, (stands f.0 f.1 f.2 f.3 f.4).deadline, d, hyper_is);
+    copies = λ i l. let c = comes i l in omega (arith, c.is.copies, (copies_kept c.A c.j (app_kept c.k c.A c.at) c.within).0);
     message_period = λ i l. let c = comes i l in subst (Contains m.periods) (sym c.is.period) (period_in c.k c.A c.at);
     numbers = λ i j li lj e. omega (arith, e, (comes i li).is.number, (comes j lj).is.number);
     producer = λ i l.

@@ -14,9 +14,10 @@ use Rattle.app_graph.specs.declared.raw.RawApp.{RawApp}
 use Rattle.app_graph.specs.declared.raw.RawMode.{RawMode}
 use Rattle.app_graph.specs.declared.raw.RawSet.{RawSet}
 use Rattle.app_graph.specs.Rules.{Rule, unless, each, each_after}
-use Rattle.app_graph.specs.ValueRules.{within, has_some, at_most, among, is_task, listed, ends, task_rules, task_values, message_rules, message_values, inputs_of, has_cycle, own_rules, graph_rules, app_rules, app_values, hyper_of, runs_in, pairs_in, size_values, mode_rules, mode_values, round_rules, set_rules, value_rules}
+use Rattle.app_graph.specs.ValueRules.{within, has_some, at_most, among, is_task, listed, ends, task_rules, task_values, message_rules, message_values, inputs_of, has_cycle, own_rules, graph_rules, app_rules, app_values, hyper_of, runs_in, slots_in, pairs_in, size_values, mode_rules, mode_values, round_rules, set_rules, value_rules}
 use Rattle.ttw_text.specs.Names.{is_name}
-use Rattle.app_graph.proofs.Kept.{kept_parts, unless_kept, each_kept, all_kept, app_tasks, app_messages, app_period}
+use Rattle.app_graph.specs.Numbering.{HasCopies}
+use Rattle.app_graph.proofs.Kept.{kept_parts, unless_kept, each_kept, all_kept, app_tasks, app_messages, app_period, message_copies}
 
 kept_each : {F A : Type 0} (rule : A → Rule F) (xs : List A) → each rule xs ≡ None → AllByRecursion (λ x. rule x ≡ None) xs
 kept_each rule [] e = tt
@@ -34,7 +35,7 @@ within_parts low high z e =
     let w = and_parts (int_le low z) (int_le z high) e in
     (at_most_in low z (le-true low z w.0), at_most_in z high (le-true z high w.1))
 
-abs_within : (z : ℤ) (n : ℕ) → (pos 1 ≤ℤ z) × (z ≤ℤ pos n) → (1 ≤ unsigned_abs z) × (unsigned_abs z ≤ n)
+pub abs_within : (z : ℤ) (n : ℕ) → (pos 1 ≤ℤ z) × (z ≤ℤ pos n) → (1 ≤ unsigned_abs z) × (unsigned_abs z ≤ n)
 abs_within (pos k) n w = (omega (arith, ints, w.0), omega (arith, ints, w.1))
 abs_within (negsuc k) n w = absurd (omega (arith, ints, w.0))
 
@@ -56,6 +57,7 @@ pub record KeptApp (app : RawApp) : Type 0 where
   pub deadline : 1 ≤ unsigned_abs app.deadline
   pub wcets : AllByRecursion (λ t. (1 ≤ unsigned_abs t.wcet) × (unsigned_abs t.wcet ≤ unsigned_abs app.period)) app.tasks
   pub messages : AllByRecursion (λ m. KeptEnds 4 app m.from × KeptEnds 16 app m.to) app.messages
+  pub copies : AllByRecursion HasCopies app.messages
   pub inputs : AllByRecursion (λ t. inputs_of app t ≤ 64) app.tasks
   pub acyclic : has_cycle app ≡ false
 
@@ -110,6 +112,7 @@ kept_app set earlier app e =
       wcets = each_kept (task_values set app) (λ t. (1 ≤ unsigned_abs t.wcet) × (unsigned_abs t.wcet ≤ unsigned_abs app.period)) (kept_wcet set app) (flat_map (λ a. a.tasks) earlier) app.tasks k.1.0;
       messages = each_kept (message_values app) (λ m. KeptEnds 4 app m.from × KeptEnds 16 app m.to) (kept_message app) (flat_map (λ a. a.messages) earlier) app.messages k.1.1.0;
       inputs = kept_inputs app graph.0;
+      copies = each_kept (message_values app) HasCopies (message_copies app) (flat_map (λ a. a.messages) earlier) app.messages k.1.1.0;
       acyclic = not-true (has_cycle app) (unless_kept (not (has_cycle app)) (Cycle app.name) graph.1.0);
     }
 
@@ -132,8 +135,8 @@ pub record KeptSizes (set : RawSet) (mode : RawMode) : Type 0 where
   pub deadlines : AllByRecursion (λ a. unsigned_abs a.deadline ≤ hyper_of mode) mode.apps
   pub rounds : hyper_of mode / unsigned_abs set.round ≤ 256
   pub runs : runs_in (hyper_of mode) (λ a. length a.tasks) mode.apps ≤ 4096
-  pub instances : runs_in (hyper_of mode) (λ a. length a.messages) mode.apps ≤ 512
-  pub decisions : runs_in (hyper_of mode) (λ a. length a.messages) mode.apps + pairs_in (flat_map (λ a. a.tasks) mode.apps) ≤ 4096
+  pub instances : slots_in (hyper_of mode) mode.apps ≤ 512
+  pub decisions : slots_in (hyper_of mode) mode.apps + pairs_in (flat_map (λ a. a.tasks) mode.apps) ≤ 4096
 
 pub record KeptMode (set : RawSet) (mode : RawMode) : Type 0 where
   pub apps : AllByRecursion KeptApp mode.apps
@@ -149,8 +152,8 @@ kept_deadlines h apps e =
 kept_sizes : (set : RawSet) (mode : RawMode) → size_values set mode ≡ None → KeptSizes set mode
 kept_sizes set mode e =
     let h = hyper_of mode in
-    let r6 = unless (nat_le (runs_in h (λ a. length a.messages) mode.apps + pairs_in (flat_map (λ a. a.tasks) mode.apps)) 4096) (TooMany KDecisions) in
-    let r5 = unless (nat_le (runs_in h (λ a. length a.messages) mode.apps) 512) (TooMany KInstances) in
+    let r6 = unless (nat_le (slots_in h mode.apps + pairs_in (flat_map (λ a. a.tasks) mode.apps)) 4096) (TooMany KDecisions) in
+    let r5 = unless (nat_le (slots_in h mode.apps) 512) (TooMany KInstances) in
     let r4 = unless (nat_le (runs_in h (λ a. length a.tasks) mode.apps) 4096) (TooMany KRuns) in
     let r3 = unless (nat_le (h / unsigned_abs set.round) 256) (TooMany KRounds) in
     let r2 = each (λ a. unless (nat_le (unsigned_abs a.deadline) h) (DeadlineLong a.name)) mode.apps in
@@ -166,9 +169,9 @@ kept_sizes set mode e =
       deadlines = kept_deadlines h mode.apps b.0;
       rounds = leb-true (h / unsigned_abs set.round) 256 (unless_kept (nat_le (h / unsigned_abs set.round) 256) (TooMany KRounds) c.0);
       runs = leb-true (runs_in h (λ a. length a.tasks) mode.apps) 4096 (unless_kept (nat_le (runs_in h (λ a. length a.tasks) mode.apps) 4096) (TooMany KRuns) d.0);
-      instances = leb-true (runs_in h (λ a. length a.messages) mode.apps) 512 (unless_kept (nat_le (runs_in h (λ a. length a.messages) mode.apps) 512) (TooMany KInstances) f.0);
-      decisions = leb-true (runs_in h (λ a. length a.messages) mode.apps + pairs_in (flat_map (λ a. a.tasks) mode.apps)) 4096
-          (unless_kept (nat_le (runs_in h (λ a. length a.messages) mode.apps + pairs_in (flat_map (λ a. a.tasks) mode.apps)) 4096) (TooMany KDecisions) g.0);
+      instances = leb-true (slots_in h mode.apps) 512 (unless_kept (nat_le (slots_in h mode.apps) 512) (TooMany KInstances) f.0);
+      decisions = leb-true (slots_in h mode.apps + pairs_in (flat_map (λ a. a.tasks) mode.apps)) 4096
+          (unless_kept (nat_le (slots_in h mode.apps + pairs_in (flat_map (λ a. a.tasks) mode.apps)) 4096) (TooMany KDecisions) g.0);
     }
 
 kept_mode : (set : RawSet) (earlier : List RawMode) (mode : RawMode) → mode_values set earlier mode ≡ None → KeptMode set mode

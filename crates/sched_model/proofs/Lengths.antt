@@ -5,7 +5,7 @@ use Rattle.std.proofs.Math.Nat.{mul-le-mul_right}
 use Rattle.std.proofs.lemmas.List.Sums.{sum_by-append}
 use Rattle.tick_num.specs.Differences.{diff}
 use Rattle.sched_model.specs.Numbers.{below}
-use Rattle.sched_model.specs.PlainMode.{PlainMode, task_at, message_at, instance_count, most_rounds}
+use Rattle.sched_model.specs.PlainMode.{PlainMode, task_at, message_at, copy_count, most_rounds}
 use Rattle.sched_model.specs.TaskGraph.{first, last, reaches}
 use Rattle.sched_model.specs.ConstraintProblem.{task_var, opens_var, closes_var, base, next_round, turn, of_task, of_producer, of_consumer, of_message, of_chain, of_first, Decision, serve, order, serves, share, ordered, orders, decisions, chosen, chosen_all, in_force}
 use Rattle.sched_model.specs.ProblemLimits.{IsSmall, ProblemFits}
@@ -33,10 +33,10 @@ cond_most : {X : Type 0} (b : Bool) (xs : List X) → length (cond b xs []) ≤ 
 cond_most true xs = omega arith
 cond_most false xs = omega arith
 
-serves_total : (m : PlainMode) (n : ℕ) → length (flat_map (serves m) (below n)) ≡ sum_by (λ i. instance_count m (message_at m i)) (below n)
+serves_total : (m : PlainMode) (n : ℕ) → length (flat_map (serves m) (below n)) ≡ sum_by (λ i. copy_count m (message_at m i)) (below n)
 serves_total m zero = refl
 serves_total m (suc n) =
-    let a = sum_by-append (λ i. instance_count m (message_at m i)) (below n) (n ∷ []) in
+    let a = sum_by-append (λ i. copy_count m (message_at m i)) (below n) (n ∷ []) in
     let b = ap length (flat_below-suc (serves m) n) ∙ length-append (flat_map (serves m) (below n)) (serves m n) in
     omega (arith, a, b, length-serves m n, serves_total m n)
 

@@ -2,6 +2,7 @@ pub mod Lists
 pub mod Spans
 pub mod Tests
 pub mod Classes
+pub mod Exactly
 pub mod Serving
 pub mod Given
 pub mod Hyperperiods
@@ -55,4 +56,4 @@ pub mod Visits
 pub mod Verdicts
 pub mod TestLaws
 pub mod TaskNumbers
-pub mod MarkedWindows
+pub mod ServedCounts

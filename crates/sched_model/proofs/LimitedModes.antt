@@ -10,13 +10,13 @@ use Rattle.app_graph.specs.declared.raw.RawSet.{RawSet}
 use Rattle.app_graph.specs.declared.mode_set.App.{App}
 use Rattle.app_graph.specs.declared.mode_set.Mode.{Mode}
 use Rattle.app_graph.specs.declared.mode_set.ModeSet.{ModeSet}
-use Rattle.app_graph.specs.ValueRules.{value_rules}
+use Rattle.app_graph.specs.ValueRules.{value_rules, slots_in}
 use Rattle.app_graph.specs.Numbering.{task_place, apps_from, numbers_of, set_of}
 use Rattle.app_graph.specs.Validation.{KeepsRules}
 use Rattle.sched_model.specs.PlainMode.{PlainMode, hyper, tasks_of, plain_task, place_of, plain_mode, mode_at, plain_at}
 use Rattle.sched_model.specs.ModeLimits.{IsLimited}
 use Rattle.sched_model.proofs.KeptRules.{KeptApp, KeptMode, KeptSet, kept_set}
-use Rattle.sched_model.proofs.KeptModes.{periods_are, comes, message_kept, app_kept, hyper_is}
+use Rattle.sched_model.proofs.KeptModes.{periods_are, comes, message_kept, copies_kept, app_kept, hyper_is}
 use Rattle.sched_model.proofs.KeptSets.{mode_found}
 use Rattle.sched_model.proofs.PlainPlaces.{no_raw_message}
 use Rattle.sched_model.proofs.Sizes.{instances_by_app, task_total, message_total, instance_total}
@@ -43,11 +43,15 @@ module _ (raw : RawSet) (kept : KeptSet raw) (mode : RawMode) (t n : ℕ) (ok : 
         let k = message_kept raw (set_of raw) raw.nodes mode t n kept.round.0 ok c.A c.j (app_kept raw (set_of raw) raw.nodes mode t n kept.round.0 ok c.k c.A c.at) c.within in
         let u = get_or c.A.messages c.j no_raw_message in
         (omega (arith, k.0.few, ap (λ (x : List ℕ). length x) c.is.from, count (t + c.k) c.A.tasks u.from), omega (arith, k.1.few, ap (λ (x : List ℕ). length x) c.is.to, count (t + c.k) c.A.tasks u.to));
+    copies = λ i l.
+        let c = comes raw (set_of raw) raw.nodes mode t n kept.round.0 ok i l in
+        let k = copies_kept raw (set_of raw) raw.nodes mode t n kept.round.0 ok c.A c.j (app_kept raw (set_of raw) raw.nodes mode t n kept.round.0 ok c.k c.A c.at) c.within in
+        omega (arith, c.is.copies, k.1);
     rounds = let e = ap (λ h. h / unsigned_abs raw.round) (hyper_is raw (set_of raw) raw.nodes mode t n kept.round.0 ok) in omega (arith, e, ok.sizes.rounds);
     instances =
         let a = instances_by_app (set_of raw) (record { name = mode.name; apps = apps_from raw.nodes t n mode.apps }) in
         let b = instance_total raw.nodes (hyper m) t n mode.apps in
-        let c = ap (λ h. sum_by (λ (x : RawApp). length x.messages * (h / unsigned_abs x.period)) mode.apps) (hyper_is raw (set_of raw) raw.nodes mode t n kept.round.0 ok) in
+        let c = ap (λ h. slots_in h mode.apps) (hyper_is raw (set_of raw) raw.nodes mode t n kept.round.0 ok) in
         omega (arith, a, b, c, ok.sizes.instances);
   }
     where

@@ -4,7 +4,7 @@ use Rattle.std.specs.List.{filter, flat_map}
 use Rattle.std.proofs.lemmas.Bool.{cases_Bool, false_from_ne_true, or_cases, eqb-false, and_parts, and_from, not_from_false, not-true, or_parts, cond-true, cond-false, eq-eqb, eqb-true}
 use Rattle.std.proofs.lemmas.List.{map-append, length-map, get_or-drop, append-nil, length-drop}
 use Rattle.std.proofs.lemmas.List.Elements.{filter-append}
-use Rattle.sched_model.specs.PlainMode.{PlainMode, message_at, instance_count}
+use Rattle.sched_model.specs.PlainMode.{PlainMode, message_at, copy_count}
 use Rattle.sched_model.specs.Numbers.{below, has, natural, distinct}
 use Rattle.sched_model.specs.ConstraintProblem.{Decision, serve, order, serves, orders, decisions, choice, load, load_of}
 use Rattle.sched_model.specs.PrintedSchedule.{names, table_of}
@@ -87,10 +87,10 @@ named_load m r j p (suc n) le =
     ⊎_elim
     (λ (yes : t n ≡ true).
     let one = ap length (cond-true (t n) (n ∷ []) [] yes) in
-    let k = passed_below (λ k. eqb ((choice m p n k - 1) % r) j) (instance_count m (message_at m n)) yes in
+    let k = passed_below (λ k. eqb ((choice m p n k - 1) % r) j) (copy_count m (message_at m n)) yes in
     let count = length-serves m n in
     let drops = length-drop (length cs) p in
-    let some = load_some r j ds q k.0 n k.0 (omega (arith, count, k.1)) (omega (arith, count, k.1, drops, split)) (get_or-map_below (serve n) (instance_count m (message_at m n)) k.0 (order 0 0) k.1)
+    let some = load_some r j ds q k.0 n k.0 (omega (arith, count, k.1)) (omega (arith, count, k.1, drops, split)) (get_or-map_below (serve n) (copy_count m (message_at m n)) k.0 (order 0 0) k.1)
     (ap (λ z. (natural z - 1) % r) (get_or-drop (length cs) p k.0 (pos 0)) ∙ eqb-true ((choice m p n k.0 - 1) % r) j k.2) in
     omega (arith, rest, e, ls, one, some))
     (λ (no : t n ≡ false).

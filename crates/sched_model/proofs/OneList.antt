@@ -7,52 +7,53 @@ use Rattle.std.proofs.lemmas.Nat.{mod_below, mod-mul-add}
 use Rattle.std.proofs.lemmas.List.{ext_get_or}
 use Rattle.std.proofs.lemmas.List.Elements.{recursion_from_All}
 use Rattle.sched_model.specs.declared.schedule.Schedule.{Schedule}
-use Rattle.sched_model.specs.PlainMode.{PlainMode, hyper, task_at, message_at, instance_count}
+use Rattle.sched_model.specs.PlainMode.{PlainMode, hyper, task_at, message_at, copy_count}
 use Rattle.sched_model.specs.Numbers.{has, natural}
 use Rattle.sched_model.specs.ConstraintProblem.{Decision, order, decisions, place, choice, chosen, base, in_force, task_var}
 use Rattle.sched_model.specs.RightSchedule.{IsSchedule}
-use Rattle.sched_model.specs.Rounds.{Carries, start, opens, closes}
 use Rattle.tick_num.specs.Differences.{Meets}
 use Rattle.sched_model.specs.PrintedSchedule.{names}
 use Rattle.sched_model.specs.ValidMode.{IsValid}
 use Rattle.sched_model.specs.ScheduleList.{values_of, HasList}
 use Rattle.sched_model.proofs.Lists.{all_right}
 use Rattle.sched_model.proofs.Tests.{passes_below, passed_below}
-use Rattle.sched_model.proofs.Places.{serve_met, chosen_met}
-use Rattle.sched_model.proofs.Counts.{choice_one, one_at_least}
+use Rattle.sched_model.proofs.Places.{chosen_met}
+use Rattle.sched_model.proofs.Counts.{one_at_least}
 use Rattle.sched_model.proofs.Values.{reads_of}
-use Rattle.sched_model.proofs.Services.{chosen_within}
+use Rattle.sched_model.proofs.Services.{choices_of}
 use Rattle.sched_model.proofs.Pairs.{order_fits, same_place}
-use Rattle.sched_model.proofs.Backward.{sorted_out, Good, good_at, made, full, all_among, all_met, choice_is, InTable, rep, served, some_starts}
-use Rattle.sched_model.proofs.Given.{names as named_by}
-use Rattle.sched_model.proofs.Rising.{rises}
+use Rattle.sched_model.proofs.Backward.{sorted_out, Good, good_at, made, full, all_among, all_met, choice_is, servers, row_at}
+use Rattle.sched_model.proofs.Given.{Row}
 
 same_number : (z : ℤ) (n : ℕ) → pos 1 ≤ℤ z → natural z ≡ n → z ≡ pos n
 same_number (pos k) n h e = ap pos e
 same_number (negsuc k) n h e = absurd (omega (arith, ints))
 
 module _ (m : PlainMode) (r : ℕ) (s : Schedule) (ok : IsValid m) (is : IsSchedule m r s) where
-  served_by : (p : List ℤ) → HasList m r s p → (i k : ℕ) (l : i < length m.messages) → k < instance_count m (message_at m i) → get_or p (place m i k) (pos 0) ≡ pos (is.s7.windows i k l).0
-  served_by p w i k l h =
+  served_by : (p : List ℤ) → HasList m r s p → (i x : ℕ) → i < length m.messages → x < copy_count m (message_at m i) → get_or p (place m i x) (pos 0) ≡ pos (servers m r s ok is i x)
+  served_by p w i x l h =
       let met = all_right (Meets (values_of m r s)) (base m r) _ (recursion_from_All (Meets (values_of m r s)) (in_force m r p) w.met) in
-      let z = get_or p (place m i k) (pos 0) in
-      let g = natural z in
-      let inside = chosen_within m r s (values_of m r s) i k z is.shape.some l (reads_of m r s is.shape.starts) (serve_met m r (values_of m r s) p w.full met i k l h) in
-      let one = choice_one m r p w.full w.chosen i k l h in
-      let j = (g - 1) % r in
+      let made = choices_of m r s (values_of m r s) p is.shape.some (reads_of m r s is.shape.starts) w.full w.chosen met i l in
       let n = (message_at m i).number in
-      let named : names m r p j i ≡ true = passes_below (λ x. eqb ((choice m p i x - 1) % r) j) (instance_count m (message_at m i)) k h (eq-eqb ((choice m p i k - 1) % r) j refl) in
-      let carries : Carries m s i g = ap (λ x. has (get_or s.tables ((g - 1) % x) []) n) is.shape.starts ∙ w.tables i j l (mod_below (g - 1) r is.shape.some) ∙ named in
-      same_number z (is.s7.windows i k l).0 (one_at_least m r p w.full w.chosen i k l h) ((is.s7.windows i k l).2 g (one, carries, inside))
+      let count = copy_count m (message_at m i) in
+      let one = one_at_least m r p w.full w.chosen i x l h in
+      same_number (get_or p (place m i x) (pos 0)) (servers m r s ok is i x) one
+      ((row_at m r s ok is i l).only (choice m p i) made
+      (λ g some named.
+      let j = (g - 1) % r in
+      let at : (g - 1) % r ≡ (choice m p i named.0 - 1) % r = sym (ap (λ y. (g - 1) % y) is.shape.starts) ∙ named.2 ∙ ap (λ y. (choice m p i named.0 - 1) % y) is.shape.starts in
+      let said : names m r p j i ≡ true = passes_below (λ y. eqb ((choice m p i y - 1) % r) j) count named.0 named.1 (eq-eqb ((choice m p i named.0 - 1) % r) j (sym at)) in
+      ap (λ y. has (get_or s.tables ((g - 1) % y) []) n) is.shape.starts ∙ w.tables i j l (mod_below (g - 1) r is.shape.some) ∙ said)
+      x h)
 
   in_range : (x c d : ℕ) → x < length (decisions m) → get_or (decisions m) x (order 0 0) ≡ order c d → (c < length m.tasks) × (d < length m.tasks)
   unfolding Good
-  in_range x c d l e = let g = subst (λ (y : Decision). Good m s y (get_or (made m r s ok is).0 x (pos 0))) e (good_at m r s ok is x l) in (g.0, g.1)
+  in_range x c d l e = let g = subst (λ (y : Decision). Good m s (servers m r s ok is) y (get_or (made m r s ok is).0 x (pos 0))) e (good_at m r s ok is x l) in (g.0, g.1)
 
   pub one_list : (p q : List ℤ) → HasList m r s p → HasList m r s q → p ≡ q
   one_list p q a b = ext_get_or (pos 0) p q (a.full ∙ sym b.full) (λ x l.
       ⊎_elim
-      (λ (w : (i k : ℕ) × (i < length m.messages) × (k < instance_count m (message_at m i)) × (x ≡ place m i k)).
+      (λ (w : (i k : ℕ) × (i < length m.messages) × (k < copy_count m (message_at m i)) × (x ≡ place m i k)).
       subst (λ y. get_or p y (pos 0) ≡ get_or q y (pos 0)) (sym w.4) (served_by p a w.0 w.1 w.2 w.3 ∙ sym (served_by q b w.0 w.1 w.2 w.3)))
       (λ (w : (c d : ℕ) × (get_or (decisions m) x (order 0 0) ≡ order c d)). same_order x w.0 w.1 (omega (arith, l, a.full)) w.2)
       (sorted_out m x (omega (arith, l, a.full))))
@@ -71,28 +72,27 @@ module _ (m : PlainMode) (r : ℕ) (s : Schedule) (ok : IsValid m) (is : IsSched
 
   -- and it has one
   list_named : (i j : ℕ) → i < length m.messages → j < r → has (get_or s.tables j []) (message_at m i).number ≡ names m r (made m r s ok is).0 j i
-  unfolding served
   list_named i j l lj =
       let p = (made m r s ok is).0 in
       let n = (message_at m i).number in
+      let f = servers m r s ok is i in
+      let row = row_at m r s ok is i l in
       let h = has (get_or s.tables j []) n in
       let t = names m r p j i in
-      let k_of = λ (x : ℕ). eqb ((choice m p i x - 1) % r) j in
-      let count = instance_count m (message_at m i) in
-      let period = (message_at m i).period in
+      let copy_of = λ (x : ℕ). eqb ((choice m p i x - 1) % r) j in
+      let count = copy_count m (message_at m i) in
       either h t
       (λ e.
       let low : (suc j - 1) % r ≡ j = ap (λ x. x % r) (let z : suc j - 1 ≡ j = omega arith in z) ∙ mod-small j r lj in
       let c : has (get_or s.tables ((suc j - 1) % length s.starts) []) n ≡ true = ap (λ x. has (get_or s.tables ((suc j - 1) % x) []) n) is.shape.starts ∙ ap (λ x. has (get_or s.tables x []) n) low ∙ e in
-      let w = named_by (start m s) (length s.starts) (hyper m) count period m.round (opens s i) (closes s i) (InTable m r s ok is i) (rep m r s ok is i l) (ok.periods period (ok.message_period i l))
-      (rises m s (some_starts m r s ok is) is.s1) (served m r s ok is i l) (suc j) (omega arith) c in
+      let w = row.names (suc j) (omega arith) c in
       let z = ap natural (choice_is m r s ok is i w.0 l w.1) in
-      passes_below k_of count w.0 w.1 (eq-eqb ((choice m p i w.0 - 1) % r) j (ap (λ x. (x - 1) % r) z ∙ sym (ap (λ x. ((is.s7.windows i w.0 l).0 - 1) % x) is.shape.starts) ∙ sym w.2 ∙ ap (λ x. (suc j - 1) % x) is.shape.starts ∙ low)))
+      passes_below copy_of count w.0 w.1 (eq-eqb ((choice m p i w.0 - 1) % r) j (ap (λ x. (x - 1) % r) z ∙ sym (ap (λ x. (f w.0 - 1) % x) is.shape.starts) ∙ sym w.2 ∙ ap (λ x. (suc j - 1) % x) is.shape.starts ∙ low)))
       (λ e.
-      let w = passed_below k_of count e in
+      let w = passed_below copy_of count e in
       let z = ap natural (choice_is m r s ok is i w.0 l w.1) in
-      let at = ap (λ x. ((is.s7.windows i w.0 l).0 - 1) % x) is.shape.starts ∙ sym (ap (λ x. (x - 1) % r) z) ∙ eqb-true ((choice m p i w.0 - 1) % r) j w.2 in
-      sym (ap (λ x. has (get_or s.tables x []) n) at) ∙ (is.s7.windows i w.0 l).1.1)
+      let at = ap (λ x. (f w.0 - 1) % x) is.shape.starts ∙ sym (ap (λ x. (x - 1) % r) z) ∙ eqb-true ((choice m p i w.0 - 1) % r) j w.2 in
+      sym (ap (λ x. has (get_or s.tables x []) n) at) ∙ row.listed w.0)
     where
       either : (a b : Bool) → (a ≡ true → b ≡ true) → (b ≡ true → a ≡ true) → a ≡ b
       either true b f g = sym (f refl)

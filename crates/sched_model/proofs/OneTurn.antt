@@ -11,12 +11,13 @@ use Rattle.sched_model.specs.declared.schedule.Schedule.{Schedule}
 use Rattle.sched_model.specs.Numbers.{natural, gcd}
 use Rattle.sched_model.specs.PlainMode.{PlainMode, hyper, task_at, message_at, instance_count}
 use Rattle.sched_model.specs.Rounds.{round_start, task_start, opens, closes, start, Carries}
-use Rattle.sched_model.specs.RightSchedule.{HasShape, RoundsFit, OffsetFits, MessageFits, RunsApart, ExactlyOne, AllServed, Timely}
+use Rattle.sched_model.specs.RightSchedule.{HasShape, RoundsFit, OffsetFits, MessageFits, RunsApart, AllServed, Timely}
 use Rattle.sched_model.specs.OneHyperperiod.{class_place, ClassesApart, Lists, wait, first_start, window_then, EndsInWindow, ServesFirst, ServedOnce, EntriesFit}
 use Rattle.sched_model.specs.ValidMode.{IsValid}
 use Rattle.sched_model.proofs.Hyperperiods.{hyper_some}
 use Rattle.sched_model.proofs.Pairs.{Fits, gcd_some, never_meet, place_of, at_most_from_times}
 use Rattle.sched_model.proofs.Graph.{message_edge}
+use Rattle.sched_model.proofs.Exactly.{also}
 use Rattle.sched_model.proofs.Serving.{Repeats}
 use Rattle.sched_model.proofs.Services.{window_repeats}
 use Rattle.sched_model.proofs.Rising.{rises}
@@ -164,25 +165,29 @@ module _ (m : PlainMode) (r : ℕ) (s : Schedule) (ok : IsValid m) (shape : HasS
   )
 
   -- ---- S7
-  exactly_also : (P Q : ℕ → Type 0) → ((g : ℕ) → P g → Q g) → ((g : ℕ) → Q g → P g) → ExactlyOne P → ExactlyOne Q
-  exactly_also P Q f b e = (e.0, f e.0 e.1, λ g w. e.2 g (b g w))
-
   abbrev First : (i : ℕ) → i < length m.messages → ℕ → ℕ → Type 0
   First i l = FirstIn (start m s) (length s.starts) (hyper m) (instance_count m (message_at m i)) (message_at m i).period m.round (opens s i) (closes s i) (InTable i) (rep i l) (wait m s i) (window_then m s i) (firsts i l)
+
+  to_first : (i k : ℕ) (l : i < length m.messages) (j : ℕ) → First i l k j → ServesFirst m s i k j
+  to_first i k l j w = record { within = w.0; lists = w.1; which = w.2; ends = (ends_both i j w.0).1 w.3 }
+
+  of_first : (i k : ℕ) (l : i < length m.messages) (j : ℕ) → ServesFirst m s i k j → First i l k j
+  of_first i k l j w = (w.within, w.lists, w.which, (ends_both i j w.within).0 w.ends)
 
   pub windows : AllServed m s ↔ ServedOnce m s
   windows = (
     λ all. record {
       tables = all.tables;
       windows = λ i k l lk.
-          exactly_also (First i l k) (ServesFirst m s i k) (λ j w. record { within = w.0; lists = w.1; which = w.2; ends = (ends_both i j w.0).1 w.3 }) (λ j w. (w.within, w.lists, w.which, (ends_both i j w.within).0 w.ends))
-          (served_once (start m s) (length s.starts) (hyper m) _ _ m.round (opens s i) (closes s i) (InTable i) (rep i l) (wait m s i) (window_then m s i) (firsts i l) (λ k. all.windows i k l) k lk);
+          let c = (message_at m i).copies in
+          also c (First i l k) (ServesFirst m s i k) (to_first i k l) (of_first i k l)
+          (served_once (start m s) (length s.starts) (hyper m) _ _ m.round (opens s i) (closes s i) (InTable i) (rep i l) (wait m s i) (window_then m s i) (firsts i l) c (λ k. all.windows i k l) k lk);
     },
     λ once. record {
       tables = once.tables;
       windows = λ i k l.
-          all_served (start m s) (length s.starts) (hyper m) _ _ m.round (opens s i) (closes s i) (InTable i) (rep i l) (wait m s i) (window_then m s i) (firsts i l)
-          (λ k lk. exactly_also (ServesFirst m s i k) (First i l k) (λ j w. (w.within, w.lists, w.which, (ends_both i j w.within).0 w.ends)) (λ j w. record { within = w.0; lists = w.1; which = w.2; ends = (ends_both i j w.0).1 w.3 })
-          (once.windows i k l lk)) k;
+          let c = (message_at m i).copies in
+          all_served (start m s) (length s.starts) (hyper m) _ _ m.round (opens s i) (closes s i) (InTable i) (rep i l) (wait m s i) (window_then m s i) (firsts i l) c
+          (λ k lk. also c (ServesFirst m s i k) (First i l k) (of_first i k l) (to_first i k l) (once.windows i k l lk)) k;
     },
   )

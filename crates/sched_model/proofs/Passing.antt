@@ -2,7 +2,6 @@
 use Rattle.std.proofs.Common.{◌≡◌, ℕ, ◌+◌, ◌<◌, ◌≤◌, Bool, true, false, eqb, ◌↔◌, IsTrue, List, length, get_or, All, refl, subst, arith, ⊎_elim}
 use Rattle.std.proofs.lemmas.Bool.{cases_lt, both_ways, eqb-true, eq-eqb}
 use Rattle.std.proofs.lemmas.List.{get_or_default}
-use Rattle.sched_model.specs.RightSchedule.{ExactlyOne}
 
 -- one number more
 pub passes_one : (P : ℕ → Type 0) (k : ℕ) (b : Bool) → (IsTrue b ↔ P k) → b ≡ true → ((i : ℕ) → i < k → P i) → (i : ℕ) → i < k + 1 → P i
@@ -33,28 +32,3 @@ not_under c P h = (λ e k. absurd (both_ways c h k), λ f. refl)
 -- what holds at each place of a list
 pub all_by_place : {X : Type 0} (P : X → Type 0) (xs : List X) (d : X) → ((j : ℕ) → j < length xs → P (get_or xs j d)) → All P xs
 all_by_place P xs d f k e l = subst P (get_or_default xs k d e l) (f k l)
-
--- ---- exactly one
-pub none_first : (P : ℕ → Type 0) (n first : ℕ) → ((j : ℕ) → P j → j < n) → ((j : ℕ) → 0 ≤ j → j < first → P j → ⊥) → first ≡ n → IsTrue false ↔ ExactlyOne P
-none_first P n first low none e = fails_so (ExactlyOne P) (λ w. none w.0 (omega arith) (omega (arith, low w.0 w.1, e)) w.1)
-
-pub one_first : (P : ℕ → Type 0) (n first second : ℕ) → second ≤ n → ((j : ℕ) → P j → j < n) → ((j : ℕ) → 0 ≤ j → j < first → P j → ⊥) → P first
-    → ((j : ℕ) → first + 1 ≤ j → j < second → P j → ⊥) → (second < n → P second) → first + 1 ≤ second → IsTrue (eqb second n) ↔ ExactlyOne P
-one_first P n first second most low none p after q le = (
-  λ t.
-      let e = eqb-true second n t in (
-        first,
-        p,
-        λ h r. ⊎_elim
-            (λ (less : h < first). absurd (none h (omega arith) less r))
-            (λ (ge : first ≤ h). ⊎_elim
-            (λ (more : first < h). absurd (after h (omega (arith, more)) (omega (arith, low h r, e)) r))
-            (λ (same : h ≤ first). let s : h ≡ first = omega (arith, ge, same) in s)
-            (cases_lt first h))
-            (cases_lt h first),
-      ),
-  λ w. eq-eqb second n (⊎_elim
-      (λ (less : second < n). let s = w.2 second (q less) in let t = w.2 first p in absurd (omega (arith, s, t, le)))
-      (λ (ge : n ≤ second). let s : second ≡ n = omega (arith, ge, most) in s)
-      (cases_lt second n)),
-)

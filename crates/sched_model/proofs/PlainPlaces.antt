@@ -132,6 +132,7 @@ pub record IsMessage (ts : List TaskOfApp) (A : RawApp) (k t n : ℕ) (u : RawMe
   pub number : x.number ≡ n
   pub period : x.period ≡ unsigned_abs A.period
   pub deadline : x.deadline ≡ unsigned_abs A.deadline
+  pub copies : x.copies ≡ unsigned_abs u.copies
   pub from : x.from ≡ map (place_of ts) (numbers_of (t + k) A.tasks u.from)
   pub to : x.to ≡ map (place_of ts) (numbers_of (t + k) A.tasks u.to)
 
@@ -145,10 +146,10 @@ module _ (nodes : List (List ℕ)) (ts : List TaskOfApp) where
 
   message_from : (t m : ℕ) (a : RawApp) (ms : List RawMessage) (i : ℕ) → i < length ms →
       let x = get_or (map (plain a) (messages_from t a.tasks m ms)) i no_message in let u = get_or ms i no_raw_message in
-      (x.number ≡ m + i) × (x.period ≡ unsigned_abs a.period) × (x.deadline ≡ unsigned_abs a.deadline) × (x.from ≡ map (place_of ts) (numbers_of t a.tasks u.from)) × (x.to ≡ map (place_of ts) (numbers_of t a.tasks u.to))
+      (x.number ≡ m + i) × (x.period ≡ unsigned_abs a.period) × (x.deadline ≡ unsigned_abs a.deadline) × (x.from ≡ map (place_of ts) (numbers_of t a.tasks u.from)) × (x.to ≡ map (place_of ts) (numbers_of t a.tasks u.to)) × (x.copies ≡ unsigned_abs u.copies)
   message_from t m a [] i l = absurd (omega (arith, l))
-  message_from t m a (u ∷ ms) zero l = (omega arith, refl, refl, refl, refl)
-  message_from t m a (u ∷ ms) (suc i) l = let r = message_from t (m + 1) a ms i (omega (arith, l)) in (omega (arith, r.0), r.1, r.2, r.3, r.4)
+  message_from t m a (u ∷ ms) zero l = (omega arith, refl, refl, refl, refl, refl)
+  message_from t m a (u ∷ ms) (suc i) l = let r = message_from t (m + 1) a ms i (omega (arith, l)) in (omega (arith, r.0), r.1, r.2, r.3, r.4, r.5)
 
   pub message_found : (t m : ℕ) (apps : List RawApp) (i : ℕ) → i < length (plain_messages ts (apps_from nodes t m apps)) →
       (k : ℕ) × (A : RawApp) × (j : ℕ) × At apps k A × (j < length A.messages) × IsMessage ts A k t (m + i) (get_or A.messages j no_raw_message) (get_or (plain_messages ts (apps_from nodes t m apps)) i no_message)
@@ -172,6 +173,7 @@ module _ (nodes : List (List ℕ)) (ts : List TaskOfApp) where
           number = ap (λ (x : PlainMessage). x.number) y ∙ r.0;
           period = ap (λ (x : PlainMessage). x.period) y ∙ r.1;
           deadline = ap (λ (x : PlainMessage). x.deadline) y ∙ r.2;
+          copies = ap (λ (x : PlainMessage). x.copies) y ∙ r.5;
           from = ap (λ (x : PlainMessage). x.from) y ∙ r.3 ∙ ap (λ w. map (place_of ts) (numbers_of w a.tasks u.from)) z;
           to = ap (λ (x : PlainMessage). x.to) y ∙ r.4 ∙ ap (λ w. map (place_of ts) (numbers_of w a.tasks u.to)) z;
         },
@@ -192,6 +194,7 @@ module _ (nodes : List (List ℕ)) (ts : List TaskOfApp) where
           number = ap (λ (x : PlainMessage). x.number) y ∙ is.number ∙ (let s : m + length a.messages + (i - length a.messages) ≡ m + i = omega (arith, le) in s);
           period = ap (λ (x : PlainMessage). x.period) y ∙ is.period;
           deadline = ap (λ (x : PlainMessage). x.deadline) y ∙ is.deadline;
+          copies = ap (λ (x : PlainMessage). x.copies) y ∙ is.copies;
           from = ap (λ (x : PlainMessage). x.from) y ∙ is.from ∙ ap (λ w. map (place_of ts) (numbers_of w r.1.tasks u.from)) z;
           to = ap (λ (x : PlainMessage). x.to) y ∙ is.to ∙ ap (λ w. map (place_of ts) (numbers_of w r.1.tasks u.to)) z;
         },

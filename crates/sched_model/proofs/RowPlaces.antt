@@ -185,6 +185,7 @@ module _ (set : ModeSet) (i : ℕ) where
           number = sym (ap (λ (x : PlainMessage). x.number) e);
           period = sym (ap (λ (x : PlainMessage). x.period) e);
           deadline = sym (ap (λ (x : PlainMessage). x.deadline) e);
+          copies = sym (ap (λ (x : PlainMessage). x.copies) e);
           from = sym (ap (λ (x : PlainMessage). x.from) e);
           to = sym (ap (λ (x : PlainMessage). x.to) e);
           period_some = p.0;

@@ -107,6 +107,7 @@ loop_valid = record {
   task_period = all_below (λ a. Contains loop.periods (task_at loop a).period) 3 (here, (here, (here, tt)));
   wcet = all_below (λ a. (1 ≤ (task_at loop a).wcet) × ((task_at loop a).wcet ≤ (task_at loop a).period)) 3 ((lit≤ tt, lit≤ tt), ((lit≤ tt, lit≤ tt), ((lit≤ tt, lit≤ tt), tt)));
   deadline = all_below (λ a. (task_at loop a).deadline ≤ 100) 3 (lit≤ tt, (lit≤ tt, (lit≤ tt, tt)));
+  copies = all_below (λ i. 1 ≤ (message_at loop i).copies) 2 (lit≤ tt, (lit≤ tt, tt));
   message_period = all_below (λ i. Contains loop.periods (message_at loop i).period) 2 (here, (here, tt));
   numbers = λ i j l k e. sym (number i l) ∙ e ∙ number j k;
   producer = all_below (λ i. (a : ℕ) × Contains (message_at loop i).from a) 2 ((0, (0, lit< tt, refl)), ((1, (0, lit< tt, refl)), tt));
@@ -148,10 +149,10 @@ unfolding hyper
 loop_early all = at ((g - 1) % 2) ((g - 1) / 2) (mod_below (g - 1) 2 (lit< tt)) w.1 w.2
   where
     g : ℕ
-    g = (all.windows 0 0 (lit< tt)).0
+    g = (all.windows 0 0 (lit< tt)).row 0
 
     w : (1 ≤ g) × Carries loop (loop_plan (pos 22)) 0 g × InWindow loop (loop_plan (pos 22)) 0 0 g
-    w = (all.windows 0 0 (lit< tt)).1
+    w = (all.windows 0 0 (lit< tt)).each 0 (lit< tt)
 
     s : Schedule
     s = loop_plan (pos 22)

@@ -4,15 +4,13 @@ use Rattle.std.specs.List.{flat_map, sum_by}
 use Rattle.std.proofs.lemmas.Bool.{cases_Bool, eqb-true, eq-eqb, ne_eqb, cond-true, cond-false, cases_eq}
 use Rattle.std.proofs.lemmas.List.{map-append, drop_more, length-map}
 use Rattle.std.proofs.lemmas.List.Sums.{sum_by-append}
-use Rattle.sched_model.specs.PlainMode.{PlainMode, message_at, instance_count, instances}
+use Rattle.sched_model.specs.PlainMode.{PlainMode, message_at, copy_count, instances}
 use Rattle.sched_model.specs.Numbers.{below, has, natural}
 use Rattle.sched_model.specs.ConstraintProblem.{Decision, serve, order, serves, orders, decisions, load_of}
+pub use Rattle.sched_model.specs.ServedCounts.{one_if}
 use Rattle.sched_model.proofs.Lists.{length-below}
 use Rattle.sched_model.proofs.Loads.{load-append}
 use Rattle.sched_model.proofs.Lists.{flat_below-suc}
-
-abbrev pub one_if : Bool → ℕ
-one_if b = cond b 1 0
 
 pub one_true : (b : Bool) → b ≡ true → one_if b ≡ 1
 one_true b e = cond-true b 1 0 e
@@ -111,13 +109,13 @@ count-serves : (i : ℕ) (ks : List ℕ) → serving_count (map (serve i) ks) �
 count-serves i [] = refl
 count-serves i (k ∷ ks) = ap suc (count-serves i ks)
 
-count_messages : (m : PlainMode) (n : ℕ) → sum_by (λ i. instance_count m (message_at m i)) (below n) ≡ serving_count (flat_map (serves m) (below n))
+count_messages : (m : PlainMode) (n : ℕ) → sum_by (λ i. copy_count m (message_at m i)) (below n) ≡ serving_count (flat_map (serves m) (below n))
 count_messages m zero = refl
 count_messages m (suc n) =
-    let a = sum_by-append (λ i. instance_count m (message_at m i)) (below n) (n ∷ []) in
+    let a = sum_by-append (λ i. copy_count m (message_at m i)) (below n) (n ∷ []) in
     let b = ap serving_count (flat_below-suc (serves m) n) ∙ count-append (flat_map (serves m) (below n)) (serves m n) in
-    let c = count-serves n (below (instance_count m (message_at m n))) in
-    omega (arith, a, b, c, count_messages m n, length-below (instance_count m (message_at m n)))
+    let c = count-serves n (below (copy_count m (message_at m n))) in
+    omega (arith, a, b, c, count_messages m n, length-below (copy_count m (message_at m n)))
 
 pub instances_counted : (m : PlainMode) → instances m ≤ serving_count (decisions m)
 unfolding decisions

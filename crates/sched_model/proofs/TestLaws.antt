@@ -4,6 +4,7 @@ use Rattle.std.proofs.lemmas.List.Elements.{All-from_recursion}
 use Rattle.app_graph.specs.declared.raw.RawSet.{RawSet}
 use Rattle.app_graph.specs.declared.mode_set.ModeSet.{ModeSet}
 use Rattle.app_graph.specs.Hyperperiod.{hyperperiod}
+use Rattle.app_graph.specs.ValueRules.{slots_of}
 use Rattle.sched_model.specs.declared.schedule.Schedule.{Schedule}
 use Rattle.sched_model.specs.PlainMode.{plain_at}
 use Rattle.sched_model.specs.RightSchedule.{HasShape}
@@ -26,7 +27,7 @@ raw_loop gap = record {
       tasks = record { name = codes "sense"; node = codes "n1"; wcet = pos 2; body = codes "tally" }
           ∷ record { name = codes "ctrl"; node = codes "n0"; wcet = pos 5; body = codes "tally" }
           ∷ record { name = codes "act"; node = codes "n2"; wcet = pos 1; body = codes "tally" } ∷ [];
-      messages = record { name = codes "m1"; from = codes "sense" ∷ []; to = codes "ctrl" ∷ [] } ∷ record { name = codes "m2"; from = codes "ctrl" ∷ []; to = codes "act" ∷ [] } ∷ [];
+      messages = record { name = codes "m1"; from = codes "sense" ∷ []; to = codes "ctrl" ∷ []; copies = pos 1 } ∷ record { name = codes "m2"; from = codes "ctrl" ∷ []; to = codes "act" ∷ []; copies = pos 1 } ∷ [];
     } ∷ [];
   } ∷ [];
 }
@@ -57,19 +58,19 @@ raw_shared wcet = record {
 }
 
 pub wide_kept : IsLoop (loop_with (pos 100))
-unfolding hyperperiod
+unfolding hyperperiod slots_of
 wide_kept = (pos 100, refl, (raw_loop (pos 100), refl, refl))
 
 pub close_kept : IsLoop (loop_with (pos 60))
-unfolding hyperperiod
+unfolding hyperperiod slots_of
 close_kept = (pos 60, refl, (raw_loop (pos 60), refl, refl))
 
 pub short_kept : IsShared (shared_with (pos 1))
-unfolding hyperperiod
+unfolding hyperperiod slots_of
 short_kept = (pos 1, refl, (raw_shared (pos 1), refl, refl))
 
 pub long_kept : IsShared (shared_with (pos 2))
-unfolding hyperperiod
+unfolding hyperperiod slots_of
 long_kept = (pos 2, refl, (raw_shared (pos 2), refl, refl))
 
 -- ---- shapes

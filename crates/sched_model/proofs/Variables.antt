@@ -7,7 +7,7 @@ use Rattle.std.proofs.lemmas.List.Elements.{All-from_recursion}
 use Rattle.tick_num.specs.declared.differences.Diff.{Diff}
 use Rattle.tick_num.specs.Differences.{InRange}
 use Rattle.sched_model.specs.Numbers.{below, natural}
-use Rattle.sched_model.specs.PlainMode.{PlainMode, message_at, instance_count}
+use Rattle.sched_model.specs.PlainMode.{PlainMode, message_at, copy_count}
 use Rattle.sched_model.specs.ConstraintProblem.{vars, base, Decision, serve, order, serves, orders, ordered, share, decisions, chosen, chosen_all, in_force}
 use Rattle.sched_model.specs.ValidMode.{IsValid}
 use Rattle.sched_model.proofs.Lists.{all_both, flat_all, below_all, cond_all}
@@ -16,7 +16,7 @@ use Rattle.sched_model.proofs.Graph.{message_edge}
 
 -- ---- decisions are on messages and tasks of the mode
 abbrev pub IsOfMode : PlainMode → Decision → Type 0
-IsOfMode m (serve i k) = (i < length m.messages) × (k < instance_count m (message_at m i))
+IsOfMode m (serve i k) = (i < length m.messages) × (k < copy_count m (message_at m i))
 IsOfMode m (order a b) = (a < b) × (b < length m.tasks)
 
 pub decisions_of_mode : (m : PlainMode) → AllByRecursion (IsOfMode m) (decisions m)
@@ -26,7 +26,7 @@ decisions_of_mode m =
     let n = length m.tasks in
     all_both M (flat_map (serves m) (below (length m.messages))) _
     (flat_all M (serves m) (below (length m.messages)) (below_all (λ i. AllByRecursion M (serves m i)) (length m.messages) (λ i l.
-    mapped M (serve i) (below (instance_count m (message_at m i))) (below_all (λ k. M (serve i k)) (instance_count m (message_at m i)) (λ k h. (l, h))))))
+    mapped M (serve i) (below (copy_count m (message_at m i))) (below_all (λ k. M (serve i k)) (copy_count m (message_at m i)) (λ k h. (l, h))))))
     (flat_all M (orders m) (below n) (below_all (λ a. AllByRecursion M (orders m a)) n (λ a la.
     flat_all M (ordered m a) (below n) (below_all (λ b. AllByRecursion M (ordered m a b)) n (λ b lb.
     cond_all M (share m a b) (order a b ∷ []) (λ e. ((ltb-true a b (and_parts (ltb a b) _ e).0, lb), tt)))))))

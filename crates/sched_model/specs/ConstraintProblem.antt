@@ -6,7 +6,7 @@ use Rattle.std.specs.Int.{int_div_euclid}
 use Rattle.tick_num.specs.declared.differences.Diff.{Diff}
 use Rattle.tick_num.specs.Differences.{diff}
 use Rattle.sched_model.specs.Numbers.{below, natural, span, gcd}
-use Rattle.sched_model.specs.PlainMode.{PlainMode, PlainTask, hyper, task_at, message_at, instance_count}
+use Rattle.sched_model.specs.PlainMode.{PlainMode, PlainTask, hyper, task_at, message_at, copy_count}
 use Rattle.sched_model.specs.TaskGraph.{first, last, reaches}
 
 -- ---- variables: the rounds' starts, the tasks' starts, then each message's opening and closing
@@ -77,14 +77,15 @@ base m r =
 
 -- ---- the decisions
 
--- which round instance carries instance k of message i, or at which place the runs of task b stand between those of task a
+-- which round instance carries copy x of message i, counted over its windows, or at which place the runs of task b stand between
+-- those of task a
 pub data Decision : Type 0 where
   serve : ℕ → ℕ → Decision
   order : ℕ → ℕ → Decision
 
--- the instances of a message in a hyperperiod
+-- the copies of a message in a hyperperiod, window by window
 abbrev pub serves : PlainMode → ℕ → List Decision
-serves m i = map (serve i) (below (instance_count m (message_at m i)))
+serves m i = map (serve i) (below (copy_count m (message_at m i)))
 
 -- a stands before b, on one node
 abbrev pub share : PlainMode → ℕ → ℕ → Bool
@@ -98,17 +99,17 @@ ordered m a b = cond (share m a b) (order a b ∷ []) []
 abbrev pub orders : PlainMode → ℕ → List Decision
 orders m a = flat_map (ordered m a) (below (length m.tasks))
 
--- the messages' instances, then the pairs of tasks, in file order
+-- the messages' copies, then the pairs of tasks, in file order
 unfoldable pub decisions : PlainMode → List Decision
 decisions m = flat_map (serves m) (below (length m.messages)) ++ flat_map (orders m) (below (length m.tasks))
 
--- the place among the decisions of instance k of message i
+-- the place among the decisions of copy x of message i
 abbrev pub place : PlainMode → ℕ → ℕ → ℕ
-place m i k = length (flat_map (serves m) (below i)) + k
+place m i x = length (flat_map (serves m) (below i)) + x
 
 -- the round instance that a list of choices has for it
 abbrev pub choice : PlainMode → List ℤ → ℕ → ℕ → ℕ
-choice m p i k = natural (slice_index_or p (place m i k) (pos 0))
+choice m p i x = natural (slice_index_or p (place m i x) (pos 0))
 
 -- ---- the alternatives of a decision
 
@@ -124,11 +125,11 @@ places s t =
     cond (nat_lt d (s.wcet + t.wcet)) []
     (span (int_div_euclid (pos t.wcet -ℤ latest s +ℤ pos d -ℤ pos 1) (pos d) -ℤ pos 1) (int_div_euclid (latest t -ℤ pos s.wcet) (pos d)))
 
--- after the choices p. The choices of a message's earlier instances are the last ones of p: a later instance has a later round instance,
+-- after the choices p. The choices of a message's earlier copies are the last ones of p: a later copy has a later round instance,
 -- and all are within one hyperperiod's rounds from the first one's
 abbrev pub alternatives_of : PlainMode → ℕ → Decision → List ℤ → List ℤ
 alternatives_of m r (serve i zero) p = let msg = message_at m i in span (pos 1) (pos (r * ((msg.period + msg.deadline) / hyper m + 1)))
-alternatives_of m r (serve i (suc k)) p = span (slice_index_or p (length p - 1) (pos 0) +ℤ pos 1) (slice_index_or p (length p - suc k) (pos 0) +ℤ pos r -ℤ pos 1)
+alternatives_of m r (serve i (suc x)) p = span (slice_index_or p (length p - 1) (pos 0) +ℤ pos 1) (slice_index_or p (length p - suc x) (pos 0) +ℤ pos r -ℤ pos 1)
 alternatives_of m r (order a b) p = places (task_at m a) (task_at m b)
 
 -- the alternatives of the next decision, ascending
@@ -137,12 +138,17 @@ alternatives m r p = alternatives_of m r (slice_index_or (decisions m) (length p
 
 -- ---- the constraints of choices
 
--- the two constraints that a choice adds: the round instance lies in the window, or the runs of the second task stand between those of the first
+-- the window of copy x of message i
+abbrev pub window_of : PlainMode → ℕ → ℕ → ℕ
+window_of m i x = x / (message_at m i).copies
+
+-- the two constraints that a choice adds: the round instance lies in the copy's window, or the runs of the second task stand between
+-- those of the first
 abbrev pub chosen : PlainMode → ℕ → Decision → ℤ → List Diff
-chosen m r (serve i k) v =
+chosen m r (serve i x) v =
     let g = natural v in
     let j = (g - 1) % r in
-    let shift = pos ((g - 1) / r * hyper m) -ℤ pos (k * (message_at m i).period) in
+    let shift = pos ((g - 1) / r * hyper m) -ℤ pos (window_of m i x * (message_at m i).period) in
     diff (opens_var m r i) (round_var j) shift ∷ diff (round_var j) (closes_var m r i) (neg_ℤ shift -ℤ pos m.round) ∷ []
 chosen m r (order a b) z =
     let s = task_at m a in
@@ -164,7 +170,7 @@ in_force m r p = base m r ++ chosen_all m r (decisions m) p
 abbrev pub load_of : ℕ → ℕ → List Decision → List ℤ → ℕ
 load_of r j [] vs = 0
 load_of r j (d ∷ ds) [] = 0
-load_of r j (serve i k ∷ ds) (v ∷ vs) = cond (nat_eq ((natural v - 1) % r) j) 1 0 + load_of r j ds vs
+load_of r j (serve i x ∷ ds) (v ∷ vs) = cond (nat_eq ((natural v - 1) % r) j) 1 0 + load_of r j ds vs
 load_of r j (order a b ∷ ds) (v ∷ vs) = load_of r j ds vs
 
 -- the same for choices of a mode's decisions

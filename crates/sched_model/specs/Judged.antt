@@ -36,6 +36,7 @@ pub record ShowsWindow (m : PlainMode) (s : Schedule) (w : Window) : Type 0 wher
   pub opens : pos w.opens ≡ opens s w.message
   pub closes : pos w.closes ≡ closes s w.message
   pub period : w.period ≡ (message_at m w.message).period
+  pub copies : w.copies ≡ (message_at m w.message).copies
   pub link : w.link ≡ link_of (length m.tasks) (message_at m w.message)
   pub opens_most : w.opens ≤ 2000000000000
   pub closes_most : w.closes ≤ 2000000000000

@@ -15,7 +15,7 @@ pub mod PrintedSchedule
 pub mod ScheduleList
 pub mod TimeLimits
 pub mod Judged
-pub mod Marked
+pub mod ServedCounts
 pub mod RefutationTree
 pub mod ValidMode
 pub mod ModeLimits

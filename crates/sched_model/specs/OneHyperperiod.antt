@@ -7,7 +7,7 @@ use Rattle.sched_model.specs.declared.schedule.Schedule.{Schedule}
 use Rattle.sched_model.specs.Numbers.{has, natural, gcd}
 use Rattle.sched_model.specs.PlainMode.{PlainMode, hyper, task_at, message_at, instance_count}
 use Rattle.sched_model.specs.Rounds.{round_start, task_start, opens, closes}
-use Rattle.sched_model.specs.RightSchedule.{ExactlyOne, TableFits}
+use Rattle.sched_model.specs.RightSchedule.{Exactly, TableFits}
 
 -- ---- S6
 
@@ -49,10 +49,11 @@ pub record ServesFirst (m : PlainMode) (s : Schedule) (i k j : ℕ) : Type 0 whe
   pub which : window_then m s i j ≡ k
   pub ends : EndsInWindow m s i j
 
--- S7 in one hyperperiod: the tables fit, and each window of a hyperperiod has exactly one round that carries the message in it
+-- S7 in one hyperperiod: the tables fit, and each window of a hyperperiod has exactly as many rounds that carry the message in it as
+-- it has copies
 pub record ServedOnce (m : PlainMode) (s : Schedule) : Type 0 where
   pub tables : All (TableFits m) s.tables
-  pub windows : (i k : ℕ) → i < length m.messages → k < instance_count m (message_at m i) → ExactlyOne (ServesFirst m s i k)
+  pub windows : (i k : ℕ) → i < length m.messages → k < instance_count m (message_at m i) → Exactly (message_at m i).copies (ServesFirst m s i k)
 
 -- S8 in one hyperperiod: each round that carries a message ends before the window closes
 abbrev pub EntriesFit : PlainMode → Schedule → Type 0

@@ -4,7 +4,7 @@ use Rattle.tick_num.specs.Differences.{MeetsAll}
 use Rattle.sched_model.specs.PlainMode.{PlainMode, instances}
 use Rattle.sched_model.specs.ConstraintProblem.{in_force, alternatives, decisions, load}
 
--- the rounds have slots for all message instances, no round is chosen more often than it has slots, and some values meet all constraints in force
+-- the rounds have slots for all copies of messages, no round is chosen more often than it has slots, and some values meet all constraints in force
 pub record Open (m : PlainMode) (r : ℕ) (p : List ℤ) : Type 0 where
   pub slots : instances m ≤ r * m.slots
   pub loads : (j : ℕ) → j < r → load m r j p ≤ m.slots

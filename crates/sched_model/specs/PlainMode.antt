@@ -1,6 +1,6 @@
 -- A mode in plain numbers and lists, as all definitions of schedules see it. Durations are natural numbers, in ticks.
 -- Tasks and messages go by their places in the mode, from 0 in file order.
-use Rattle.std.specs.Prelude.{ℕ, suc, ◌/◌, cond, nat_eq, List, [], ◌∷◌, ◌++◌, length, map, sum_by, fold, slice_index_or, unsigned_abs}
+use Rattle.std.specs.Prelude.{ℕ, suc, ◌/◌, cond, nat_eq, List, [], ◌∷◌, ◌++◌, length, map, sum_by, fold, ◌*◌, slice_index_or, unsigned_abs}
 use Rattle.std.specs.List.{flat_map}
 use Rattle.app_graph.specs.declared.mode_set.ModeSet.{ModeSet}
 use Rattle.app_graph.specs.declared.mode_set.Mode.{Mode}
@@ -57,13 +57,17 @@ message_at m i = slice_index_or m.messages i no_message
 unfoldable pub hyper : PlainMode → ℕ
 hyper m = fold lcm 1 m.periods
 
--- how many instances a message has in a hyperperiod
+-- how many windows of a message open in a hyperperiod
 abbrev pub instance_count : PlainMode → PlainMessage → ℕ
 instance_count m msg = hyper m / msg.period
 
--- how many instances all messages have in a hyperperiod
+-- how many slots a message needs in a hyperperiod: in each window one for each copy
+abbrev pub copy_count : PlainMode → PlainMessage → ℕ
+copy_count m msg = msg.copies * instance_count m msg
+
+-- how many slots all messages need in a hyperperiod
 abbrev pub instances : PlainMode → ℕ
-instances m = sum_by (λ i. instance_count m (message_at m i)) (below (length m.messages))
+instances m = sum_by (λ i. copy_count m (message_at m i)) (below (length m.messages))
 
 -- the most rounds that a hyperperiod has room for
 abbrev pub most_rounds : PlainMode → ℕ

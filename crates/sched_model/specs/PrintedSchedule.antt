@@ -4,7 +4,7 @@ use Rattle.std.specs.List.{list_any}
 use Rattle.tick_num.specs.Differences.{LeastValues}
 use Rattle.sched_model.specs.declared.schedule.Schedule.{Schedule}
 use Rattle.sched_model.specs.Numbers.{below}
-use Rattle.sched_model.specs.PlainMode.{PlainMode, message_at, instance_count}
+use Rattle.sched_model.specs.PlainMode.{PlainMode, message_at, copy_count}
 use Rattle.sched_model.specs.ConstraintProblem.{choice, task_var, opens_var, closes_var, in_force}
 use Rattle.sched_model.specs.OpenPrefix.{FullOpen}
 
@@ -21,7 +21,7 @@ pub record FirstList (m : PlainMode) (r : ℕ) (p : List ℤ) : Type 0 where
 
 -- some choice for message i names the round at place j
 abbrev pub names : PlainMode → ℕ → List ℤ → ℕ → ℕ → Bool
-names m r p j i = list_any (λ k. nat_eq ((choice m p i k - 1) % r) j) (below (instance_count m (message_at m i)))
+names m r p j i = list_any (λ x. nat_eq ((choice m p i x - 1) % r) j) (below (copy_count m (message_at m i)))
 
 -- the numbers of the messages with such a choice, in file order
 abbrev pub table_of : PlainMode → ℕ → List ℤ → ℕ → List ℕ

@@ -59,18 +59,21 @@ pub record TableFits (m : PlainMode) (table : List ℕ) : Type 0 where
   pub slots : length table ≤ m.slots
   pub once : distinct table ≡ true
 
--- exactly one number has the property
-abbrev pub ExactlyOne : (ℕ → Type 0) → Type 0
-ExactlyOne P = (g : ℕ) × P g × ((h : ℕ) → P h → h ≡ g)
+-- exactly c numbers have the property: those of a row of c different numbers
+pub record Exactly (c : ℕ) (P : ℕ → Type 0) : Type 0 where
+  pub row : ℕ → ℕ
+  pub apart : (x y : ℕ) → x < y → y < c → row x ≡ row y → ⊥
+  pub each : (x : ℕ) → x < c → P (row x)
+  pub only : (g : ℕ) → P g → (x : ℕ) × (x < c) × (row x ≡ g)
 
 -- round instance g lies in a window of message i, or starts before the first one
 abbrev pub Timely : PlainMode → Schedule → ℕ → ℕ → Type 0
 Timely m s i g = ((k : ℕ) × InWindow m s i k g) ⊎ (start m s g <ℤ opens s i)
 
--- S7: the tables fit, and in every window of every message exactly one round instance carries it
+-- S7: the tables fit, and in every window of every message exactly as many round instances carry it as it has copies
 pub record AllServed (m : PlainMode) (s : Schedule) : Type 0 where
   pub tables : All (TableFits m) s.tables
-  pub windows : (i k : ℕ) → i < length m.messages → ExactlyOne (Serves m s i k)
+  pub windows : (i k : ℕ) → i < length m.messages → Exactly (message_at m i).copies (Serves m s i k)
 
 -- a right schedule of r rounds, in every period
 pub record IsSchedule (m : PlainMode) (r : ℕ) (s : Schedule) : Type 0 where

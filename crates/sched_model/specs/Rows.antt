@@ -1,5 +1,5 @@
 -- Tasks and messages with their applications, by their places in a mode
-use Rattle.std.specs.Prelude.{◌≡◌, ℕ, suc, ◌≤◌, cond, nat_eq, List, [], ◌∷◌, ◌++◌, map, slice_index_or, pos, unsigned_abs}
+use Rattle.std.specs.Prelude.{◌≡◌, ℕ, suc, ◌≤◌, cond, nat_eq, List, [], ◌∷◌, ◌++◌, map, slice_index_or, pos, unsigned_abs, sum_by, ◌*◌, ◌/◌}
 use Rattle.app_graph.specs.declared.mode_set.App.{App}
 use Rattle.app_graph.specs.declared.mode_set.Task.{Task}
 use Rattle.app_graph.specs.declared.mode_set.Message.{Message}
@@ -15,6 +15,10 @@ pub record TaskIn : Type 0 where
 pub record MessageIn : Type 0 where
   pub app : App
   pub message : Message
+
+-- how many slots the messages of an application need in h ticks: in each period one for each copy
+unfoldable pub slots_by : ℕ → App → ℕ
+slots_by h a = sum_by (λ m. m.copies * (h / unsigned_abs a.period)) a.messages
 
 -- all tasks of the applications, in file order
 abbrev pub tasks_in : List App → List TaskIn
@@ -61,6 +65,7 @@ pub record ShowsMessage (ts : List TaskIn) (m : MessageIn) (msg : PlainMessage) 
   pub number : m.message.number ≡ msg.number
   pub period : unsigned_abs m.app.period ≡ msg.period
   pub deadline : unsigned_abs m.app.deadline ≡ msg.deadline
+  pub copies : m.message.copies ≡ msg.copies
   pub from : map (place_in ts) m.message.from ≡ msg.from
   pub to : map (place_in ts) m.message.to ≡ msg.to
   pub period_some : 1 ≤ msg.period

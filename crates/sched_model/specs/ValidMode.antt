@@ -11,7 +11,7 @@ pub record Joins (m : PlainMode) (rank : ℕ → ℕ) (a b : ℕ) : Type 0 where
   pub deadline : (task_at m a).deadline ≡ (task_at m b).deadline
   pub later : rank a < rank b
 
--- periods, wcets and the round's length are positive and within the hyperperiod's limits, each message has a producer and a consumer and
+-- periods, wcets and the round's length are positive and within the hyperperiod's limits, each message has a producer, a consumer, a copy and
 -- a number of its own, and no task reaches itself: each edge leads up in the rank of the tasks
 pub record IsValid (m : PlainMode) : Type 0 where
   pub round : 1 ≤ m.round
@@ -20,6 +20,7 @@ pub record IsValid (m : PlainMode) : Type 0 where
   pub task_period : (a : ℕ) → a < length m.tasks → Contains m.periods (task_at m a).period
   pub wcet : (a : ℕ) → a < length m.tasks → (1 ≤ (task_at m a).wcet) × ((task_at m a).wcet ≤ (task_at m a).period)
   pub deadline : (a : ℕ) → a < length m.tasks → (task_at m a).deadline ≤ hyper m
+  pub copies : (i : ℕ) → i < length m.messages → 1 ≤ (message_at m i).copies
   pub message_period : (i : ℕ) → i < length m.messages → Contains m.periods (message_at m i).period
   pub numbers : (i j : ℕ) → i < length m.messages → j < length m.messages → (message_at m i).number ≡ (message_at m j).number → i ≡ j
   pub producer : (i : ℕ) → i < length m.messages → (a : ℕ) × Contains (message_at m i).from a

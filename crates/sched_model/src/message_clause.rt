@@ -25,6 +25,8 @@ pub(crate) struct Window {
     pub(crate) closes: u64,
     /// Its period.
     pub(crate) period: u64,
+    /// How many rounds of a window carry it.
+    pub(crate) copies: u32,
     /// Its producers and consumers.
     pub(crate) link: Link,
 }
@@ -50,6 +52,7 @@ pub(crate) fn window_of(
         opens: opens(s, message),
         closes: closes(s, message),
         period: period_of(app),
+        copies: sent.copies,
         link: graph.link(message),
     }
 }

@@ -20,6 +20,8 @@ pub struct MessageRow {
     pub period: u64,
     /// The deadline of its application.
     pub deadline: u64,
+    /// How many round instances of a window carry it.
+    pub copies: u32,
 }
 
 /// How many tasks the mode has.
@@ -50,6 +52,7 @@ pub fn message_row(set: &ModeSet, mode: u32, place: u32) -> MessageRow
     ensures number { result.number ≡ (message_at (plain_at set.now mode) place).number }
     ensures period { result.period ≡ (message_at (plain_at set.now mode) place).period }
     ensures deadline { result.deadline ≡ (message_at (plain_at set.now mode) place).deadline }
+    ensures copies { result.copies ≡ (message_at (plain_at set.now mode) place).copies }
     ensures limits { (1 ≤ result.period) × (result.period ≤ 1000000000) × (result.deadline ≤ 1000000000000) }
 {
     let (app, message) = find_message(apps_of(set, mode), place as usize);
@@ -57,6 +60,7 @@ pub fn message_row(set: &ModeSet, mode: u32, place: u32) -> MessageRow
         number: message.number,
         period: period_of(app),
         deadline: deadline_of(app),
+        copies: message.copies,
     }
 }
 

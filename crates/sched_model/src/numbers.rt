@@ -1,12 +1,13 @@
-//! Numbers of a mode: its hyperperiod, its message instances and the most rounds. No call takes memory.
+//! Numbers of a mode: its hyperperiod, the slots that it needs and the most rounds. No call takes memory.
 
 ghost use Rattle.std.specs.Prelude.{◌≡◌, ◌*◌, ◌/◌, ◌<◌, ◌≤◌, All, fold, length, map, pos, sum_by, unsigned_abs, ◌<ℤ◌};
 ghost use Rattle.app_graph.specs.Hyperperiod.{lcm};
 ghost use Rattle.app_graph.specs.Validation.{KeepsRules};
 ghost use Rattle.sched_model.specs.PlainMode.{hyper, instances, most_rounds, plain_at};
+ghost use Rattle.sched_model.specs.Rows.{slots_by};
 
 use crate::rows::apps_of;
-use app_graph::{App, ModeSet};
+use app_graph::{App, Message, ModeSet};
 use tick_num::{Time, lcm_up_to};
 
 /// The least common multiple of the two, which is within the limit of a hyperperiod.
@@ -35,15 +36,37 @@ fn hyper_of(apps: &[App]) -> u64
     hyper
 }
 
-/// How many message instances the applications have in `hyper` ticks, which are within their limit.
+/// How many slots the messages need, where each of their copies comes `each` times; they are within the limit of a mode.
+fn copies_in(messages: &[Message], each: u64) -> u64
+    requires { sum_by (λ m. m.copies * each) messages.now ≤ 512 }
+    ensures { result ≡ sum_by (λ m. m.copies * each) messages.now }
+{
+    let mut total = 0;
+    for message in messages {
+        total += u64::from(message.copies) * each;
+    }
+    total
+}
+
+/// How many slots the messages of the application need in `hyper` ticks, which are within the limit of a mode.
+#[tactic(auto, unfolding(crate::specs::Rows::slots_by))]
+fn slots_of(app: &App, hyper: u64) -> u64
+    requires period { pos 0 <ℤ app.now.period }
+    requires limit { slots_by hyper app.now ≤ 512 }
+    ensures { result ≡ slots_by hyper app.now }
+{
+    copies_in(app.messages.as_slice(), hyper / app.period.unsigned_abs())
+}
+
+/// How many slots the messages of the applications need in `hyper` ticks, which are within their limit.
 fn instances_in(apps: &[App], hyper: u64) -> u64
     requires periods { All (λ a. pos 0 <ℤ a.period) apps.now }
-    requires limit { sum_by (λ a. length a.messages * (hyper / unsigned_abs a.period)) apps.now ≤ 512 }
-    ensures { result ≡ sum_by (λ a. length a.messages * (hyper / unsigned_abs a.period)) apps.now }
+    requires limit { sum_by (slots_by hyper) apps.now ≤ 512 }
+    ensures { result ≡ sum_by (slots_by hyper) apps.now }
 {
     let mut total = 0;
     for app in apps {
-        total += app.messages.as_slice().len() as u64 * (hyper / app.period.unsigned_abs());
+        total += slots_of(app, hyper);
     }
     total
 }
@@ -67,7 +90,7 @@ pub fn hyper(set: &ModeSet, mode: u32) -> Time
     ticks_of(set, mode) as i64
 }
 
-/// How many instances the messages of the mode have in a hyperperiod, all together.
+/// How many slots the messages of the mode need in a hyperperiod, all together: in each window one for each copy.
 pub fn instances(set: &ModeSet, mode: u32) -> u64
     requires rules { KeepsRules set.now }
     requires mode { mode < length set.now.modes }

@@ -1,15 +1,15 @@
 //! The clauses on the rounds' tables. No call takes memory.
 
-ghost use Rattle.std.specs.Prelude.{◌≡◌, ◌↔◌, ℕ, ◌+◌, ◌-◌, ◌*◌, ◌/◌, ◌<◌, ◌≤◌, IfNone, IfSome, IsTrue, [], length, pos, slice_index_or, true};
+ghost use Rattle.std.specs.Prelude.{◌≡◌, ◌↔◌, ℕ, ◌+◌, ◌-◌, ◌*◌, ◌/◌, ◌<◌, ◌≤◌, IsTrue, [], length, pos, slice_index_or, true};
 ghost use Rattle.sched_model.specs.Judged.{IsCase, ShowsWindow};
-ghost use Rattle.sched_model.specs.Links.{graph_of, in_set};
-ghost use Rattle.sched_model.specs.Marked.{Marks};
+ghost use Rattle.sched_model.specs.Links.{graph_of};
 ghost use Rattle.sched_model.specs.Numbers;
 ghost use Rattle.sched_model.specs.OneHyperperiod.{EndsInWindow, EntriesFit, Lists, ServedOnce, ServesFirst, first_start, window_then};
 ghost use Rattle.sched_model.specs.PlainMode.{hyper, instance_count, message_at, plain_at};
-ghost use Rattle.sched_model.specs.RightSchedule.{ExactlyOne, TableFits};
+ghost use Rattle.sched_model.specs.RightSchedule.{Exactly, TableFits};
+ghost use Rattle.sched_model.specs.ServedCounts.{Counts};
 
-use crate::links::{TaskGraph, holds};
+use crate::links::TaskGraph;
 use crate::message_clause::{Window, window_of};
 use crate::round_clauses::round_of;
 use crate::rows::message_count;
@@ -174,8 +174,11 @@ fn slot_of(
     (visit.window - base).min(count)
 }
 
-/// The windows, of `count` ones from `base` on, that some round serves, one bit for each; `None` where two rounds serve one of them.
-fn marks(
+/// How many windows are counted at a time.
+const MOST_WINDOWS: u64 = 128;
+
+/// How many rounds serve each of the `count` windows from `base` on.
+fn counts_of(
     set: &ModeSet,
     mode: u32,
     s: &Schedule,
@@ -183,42 +186,38 @@ fn marks(
     ticks: u64,
     base: u64,
     count: u64,
-) -> Option<u128>
+) -> [u64; 128]
     requires case { IsCase set.now mode s.now }
     requires window { ShowsWindow (plain_at set.now mode) s.now window }
     requires ticks { ticks ≡ hyper (plain_at set.now mode) }
     requires limits { (1 ≤ ticks) × (ticks ≤ 1000000000000) }
     requires count { count ≤ 128 }
-    ensures some { IfSome result (λ marked. Marks (plain_at set.now mode) s.now window.message base count (length s.now.starts) marked) }
-    ensures none { IfNone result (¬ ((k : ℕ) → k < count → ExactlyOne (ServesFirst (plain_at set.now mode) s.now window.message (base + k)))) }
+    ensures { Counts (plain_at set.now mode) s.now window.message base count (length s.now.starts) result }
 {
-    let mut marked = 0u128;
+    let mut counts = [0; 128];
     for place in 0..round_count(s) {
         let slot = slot_of(set, mode, s, window, ticks, base, count, place);
         if slot < count {
-            if holds(marked, slot as usize) {
-                return None;
-            }
-            marked |= 1u128 << slot;
+            counts[slot as usize] += 1;
         }
     }
-    Some(marked)
+    counts
 }
 
-/// Whether the set has each of the first `count` places.
-fn has_all(marked: u128, count: u64) -> bool
+/// Whether each of the first `count` numbers is `copies`.
+fn are_all(counts: &[u64; 128], count: u64, copies: u32) -> bool
     requires { count ≤ 128 }
-    ensures { IsTrue result ↔ ((k : ℕ) → k < count → in_set marked k ≡ true) }
+    ensures { IsTrue result ↔ ((k : ℕ) → k < count → slice_index_or counts.now k 0 ≡ copies) }
 {
     for place in 0..count as usize {
-        if !holds(marked, place) {
+        if counts[place] != u64::from(copies) {
             return false;
         }
     }
     true
 }
 
-/// Whether each of the `count` windows from `base` on has exactly one round that carries the message in it.
+/// Whether each of the `count` windows from `base` on has exactly as many rounds that carry the message in it as it has copies.
 fn some_served(
     set: &ModeSet,
     mode: u32,
@@ -233,27 +232,25 @@ fn some_served(
     requires ticks { ticks ≡ hyper (plain_at set.now mode) }
     requires limits { (1 ≤ ticks) × (ticks ≤ 1000000000000) }
     requires count { count ≤ 128 }
-    ensures { IsTrue result ↔ ((k : ℕ) → k < count → ExactlyOne (ServesFirst (plain_at set.now mode) s.now window.message (base + k))) }
+    ensures { IsTrue result ↔ ((k : ℕ) → k < count → Exactly (message_at (plain_at set.now mode) window.message).copies (ServesFirst (plain_at set.now mode) s.now window.message (base + k))) }
 {
-    match marks(set, mode, s, window, ticks, base, count) {
-        Some(marked) => has_all(marked, count),
-        None => false,
-    }
+    let counts = counts_of(set, mode, s, window, ticks, base, count);
+    are_all(&counts, count, window.copies)
 }
 
-/// Whether each window of a hyperperiod has exactly one round that carries the message in it. The rounds are gone through once for each
-/// 128 windows.
+/// Whether each window of a hyperperiod has exactly as many rounds that carry the message in it as it has copies. The rounds are gone
+/// through once for each 128 windows.
 fn are_served(set: &ModeSet, mode: u32, s: &Schedule, window: Window, ticks: u64) -> bool
     requires case { IsCase set.now mode s.now }
     requires window { ShowsWindow (plain_at set.now mode) s.now window }
     requires ticks { ticks ≡ hyper (plain_at set.now mode) }
     requires limits { (1 ≤ ticks) × (ticks ≤ 1000000000000) }
-    ensures { IsTrue result ↔ ((k : ℕ) → k < instance_count (plain_at set.now mode) (message_at (plain_at set.now mode) window.message) → ExactlyOne (ServesFirst (plain_at set.now mode) s.now window.message k)) }
+    ensures { IsTrue result ↔ ((k : ℕ) → k < instance_count (plain_at set.now mode) (message_at (plain_at set.now mode) window.message) → Exactly (message_at (plain_at set.now mode) window.message).copies (ServesFirst (plain_at set.now mode) s.now window.message k)) }
 {
     let count = ticks / window.period;
     let mut base = 0;
     while base < count {
-        let some = (count - base).min(128);
+        let some = (count - base).min(MOST_WINDOWS);
         if !some_served(set, mode, s, window, ticks, base, some) {
             return false;
         }
@@ -262,13 +259,13 @@ fn are_served(set: &ModeSet, mode: u32, s: &Schedule, window: Window, ticks: u64
     true
 }
 
-/// Whether each window of each message has exactly one round that carries it.
+/// Whether each window of each message has exactly as many rounds that carry it as it has copies.
 fn messages_served(set: &ModeSet, mode: u32, s: &Schedule, graph: &TaskGraph, ticks: u64) -> bool
     requires case { IsCase set.now mode s.now }
     requires graph { graph.now ≡ graph_of (plain_at set.now mode) }
     requires ticks { ticks ≡ hyper (plain_at set.now mode) }
     requires limits { (1 ≤ ticks) × (ticks ≤ 1000000000000) }
-    ensures { IsTrue result ↔ ((i : ℕ) → i < length (plain_at set.now mode).messages → (k : ℕ) → k < instance_count (plain_at set.now mode) (message_at (plain_at set.now mode) i) → ExactlyOne (ServesFirst (plain_at set.now mode) s.now i k)) }
+    ensures { IsTrue result ↔ ((i : ℕ) → i < length (plain_at set.now mode).messages → (k : ℕ) → k < instance_count (plain_at set.now mode) (message_at (plain_at set.now mode) i) → Exactly (message_at (plain_at set.now mode) i).copies (ServesFirst (plain_at set.now mode) s.now i k)) }
 {
     for message in 0..message_count(set, mode) {
         let window = window_of(set, mode, s, graph, message);
@@ -279,7 +276,7 @@ fn messages_served(set: &ModeSet, mode: u32, s: &Schedule, graph: &TaskGraph, ti
     true
 }
 
-/// Whether the tables fit, and each window of a hyperperiod has exactly one round that carries its message.
+/// Whether the tables fit, and each window of a hyperperiod has exactly as many rounds that carry its message as it has copies.
 pub(crate) fn served_once(
     set: &ModeSet,
     mode: u32,

@@ -8,21 +8,21 @@ use Rattle.constraint_set.specs.Decided.{decision_of, MayChoose}
 use Rattle.constraint_set.proofs.Bounded.{at_serve, at_order}
 use Rattle.constraint_set.proofs.choices.diffs_of.Goals as goal
 
-pub instance_diffs-requires-clause-message : goal.instance_diffs-requires-clause-message
-instance_diffs-requires-clause-message c =
-    (at_serve c.args.frame.now c.requires.decision.0 c.in-Serve.message c.in-Serve.instance c.requires.decision.1 (ap decision_of (sym c.in-Serve.is) ∙ c.requires.decision.2)).0
+pub copy_diffs-requires-clause-message : goal.copy_diffs-requires-clause-message
+copy_diffs-requires-clause-message c =
+    (at_serve c.args.frame.now c.requires.decision.0 c.in-Serve.message c.in-Serve.copy c.requires.decision.1 (ap decision_of (sym c.in-Serve.is) ∙ c.requires.decision.2)).0
 
-pub instance_diffs-requires-clause-instance : goal.instance_diffs-requires-clause-instance
-instance_diffs-requires-clause-instance c =
-    (at_serve c.args.frame.now c.requires.decision.0 c.in-Serve.message c.in-Serve.instance c.requires.decision.1 (ap decision_of (sym c.in-Serve.is) ∙ c.requires.decision.2)).1
+pub copy_diffs-requires-clause-copy : goal.copy_diffs-requires-clause-copy
+copy_diffs-requires-clause-copy c =
+    (at_serve c.args.frame.now c.requires.decision.0 c.in-Serve.message c.in-Serve.copy c.requires.decision.1 (ap decision_of (sym c.in-Serve.is) ∙ c.requires.decision.2)).1
 
-pub instance_diffs-requires-clause-least : goal.instance_diffs-requires-clause-least
-instance_diffs-requires-clause-least c =
+pub copy_diffs-requires-clause-least : goal.copy_diffs-requires-clause-least
+copy_diffs-requires-clause-least c =
     let fits : FitsSigned w64 c.args.value = search rules in
     subst (λ g. pos 1 ≤ℤ g) (sym (to_z-of_z w64 c.args.value fits)) (subst (λ (d : Decision). MayChoose c.args.frame.now c.args.rounds d c.args.value) (ap decision_of c.in-Serve.is) c.requires.value).0
 
-pub instance_diffs-requires-clause-most : goal.instance_diffs-requires-clause-most
-instance_diffs-requires-clause-most c =
+pub copy_diffs-requires-clause-most : goal.copy_diffs-requires-clause-most
+copy_diffs-requires-clause-most c =
     let fits : FitsSigned w64 c.args.value = search rules in
     subst (λ g. g ≤ℤ pos (most_choice (numbers_at c.args.frame.now c.args.rounds c.in-Serve.message))) (sym (to_z-of_z w64 c.args.value fits)) (subst (λ (d : Decision). MayChoose c.args.frame.now c.args.rounds d c.args.value) (ap decision_of c.in-Serve.is) c.requires.value).1
 

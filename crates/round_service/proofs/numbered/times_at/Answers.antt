@@ -14,4 +14,5 @@ returns-clause-servable c =
       hyper = (omega (arith, c.ticks_of.ensures, hyper_some (plain_at c.args.set.now c.args.mode)), omega (arith, c.ticks_of.ensures, ok.hyper_limit));
       period = (l.0, l.1);
       deadline = l.2;
+      copies = omega (arith, c.message_row-row.ensures.copies, ok.copies c.args.place c.requires.place);
     }

@@ -20,6 +20,7 @@ returns-clause-shows c =
       opens = c.opens.ensures.value;
       closes = c.closes.ensures.value;
       period = period;
+      copies = ap (λ (x : Message). x.copies) c.find_message.ensures.message ∙ shown.copies;
       link = c.link.ensures m c.requires.graph;
       opens_most = c.opens.ensures.most;
       closes_most = c.closes.ensures.most;

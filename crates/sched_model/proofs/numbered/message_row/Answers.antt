@@ -22,6 +22,11 @@ returns-clause-deadline c =
     c.deadline_of.ensures ∙ ap (λ (a : App). unsigned_abs a.deadline) c.find_message.ensures.app
     ∙ (message_shown c.args.set.now c.args.mode c.apps_of.result.now c.apps_of.ensures c.requires.rules c.requires.mode c.args.place c.requires.place).deadline
 
+pub returns-clause-copies : goal.returns-clause-copies
+returns-clause-copies c =
+    ap (λ (x : Message). x.copies) c.find_message.ensures.message
+    ∙ (message_shown c.args.set.now c.args.mode c.apps_of.result.now c.apps_of.ensures c.requires.rules c.requires.mode c.args.place c.requires.place).copies
+
 pub returns-clause-limits : goal.returns-clause-limits
 returns-clause-limits c =
     let shown = message_shown c.args.set.now c.args.mode c.apps_of.result.now c.apps_of.ensures c.requires.rules c.requires.mode c.args.place c.requires.place in

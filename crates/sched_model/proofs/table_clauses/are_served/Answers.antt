@@ -1,13 +1,13 @@
 use Rattle.std.proofs.Common.{◌≡◌, ℕ, ◌+◌, ◌-◌, ◌<◌, ◌≤◌, arith, subst, ⊎_elim}
 use Rattle.std.proofs.lemmas.Bool.{cases_lt}
-use Rattle.sched_model.specs.PlainMode.{plain_at}
-use Rattle.sched_model.specs.RightSchedule.{ExactlyOne}
+use Rattle.sched_model.specs.PlainMode.{plain_at, message_at}
+use Rattle.sched_model.specs.RightSchedule.{Exactly}
 use Rattle.sched_model.specs.OneHyperperiod.{ServesFirst}
 use Rattle.sched_model.proofs.table_clauses.are_served.Goals as goal
 
 pub loop-base-preserved : goal.loop-base-preserved
 loop-base-preserved c =
-    let P = λ (k : ℕ). ExactlyOne (ServesFirst (plain_at c.args.set.now c.args.mode) c.args.s.now c.args.window.message k) in
+    let P = λ (k : ℕ). Exactly (message_at (plain_at c.args.set.now c.args.mode) c.args.window.message).copies (ServesFirst (plain_at c.args.set.now c.args.mode) c.args.s.now c.args.window.message k) in
     record {
       most = omega (arith, c.min-some.ensures, c.loop-base-test.true);
       served = λ k l. ⊎_elim
