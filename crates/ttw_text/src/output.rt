@@ -6,8 +6,11 @@ ghost use Rattle.ttw_text.specs.Numbers.{spelled, signed_spelled};
 use std::alloc::{AllocError, Global};
 use std::marker::Model;
 
+/// The room for the digits of a number of 64 bits.
+const ROOM: usize = 20;
+
 /// The room for a minus and the digits of a number of 128 bits.
-const ROOM: usize = 40;
+const WIDE_ROOM: usize = 40;
 
 /// A text that grows at its end. Contracts see it as the list of its bytes.
 #[derive(Drop)]
@@ -30,16 +33,7 @@ fn write_digits(n: u64, buffer: &mut [u8], end: usize) -> usize
     ensures start { result + length (spelled n) ≡ end }
     ensures written { drop result buffer.new ≡ spelled n ++ drop end buffer.old }
 {
-    let mut left = n;
-    let mut at = end;
-    while left >= 10 {
-        at -= 1;
-        buffer[at] = b'0' + (left % 10) as u8;
-        left /= 10;
-    }
-    at -= 1;
-    buffer[at] = b'0' + left as u8;
-    at
+    itoa::write_digits(n, buffer, end)
 }
 
 /// The same for a number of 128 bits: the digits past 64 bits come first.
@@ -60,11 +54,11 @@ fn write_wide_digits(n: u128, buffer: &mut [u8], end: usize) -> usize
 }
 
 /// Writes a signed number at the end of `buffer`, and answers where it begins.
-fn write_signed(n: i128, buffer: &mut [u8; ROOM]) -> usize
+fn write_signed(n: i128, buffer: &mut [u8; WIDE_ROOM]) -> usize
     ensures within { result ≤ 40 }
     ensures written { drop result buffer.new ≡ signed_spelled n }
 {
-    let start = write_wide_digits(n.unsigned_abs(), buffer, ROOM);
+    let start = write_wide_digits(n.unsigned_abs(), buffer, WIDE_ROOM);
     if n >= 0 {
         return start;
     }
@@ -105,7 +99,7 @@ impl Out {
         ensures ok { OnOk result (self.new ≡ self.old ++ signed_spelled n) }
         ensures err { OnErr result (self.new ≡ self.old) }
     {
-        let mut buffer = [0; ROOM];
+        let mut buffer = [0; WIDE_ROOM];
         let start = write_signed(n, &mut buffer);
         self.put(&buffer[start..])
     }
