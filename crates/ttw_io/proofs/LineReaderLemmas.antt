@@ -1,14 +1,15 @@
 -- Bytes that are read ahead of a line, and the line that they begin with.
-use Rattle.std.proofs.Common.{◌≡◌, ◌≢◌, ℕ, ◌+◌, ◌-◌, ◌<◌, ◌≤◌, Bool, true, false, not, cond, List, [], ◌∷◌, ◌++◌, length, get_or, take, drop, Option, Ok, Err, refl, sym, ap, ◌∙◌, append_assoc, arith, length-append, length-drop, length-take, inl, inr, subst}
+use Rattle.std.proofs.Common.{◌≡◌, ◌≢◌, ℕ, ◌+◌, ◌-◌, ◌<◌, ◌≤◌, Bool, true, false, not, cond, List, [], ◌∷◌, ◌++◌, length, get_or, take, drop, Option, Some, None, Ok, Err, refl, sym, ap, ◌∙◌, append_assoc, arith, length-append, length-drop, length-take, inl, inr, subst}
 use Rattle.std.specs.List.{All, position}
 use Rattle.std.specs.Prelude.{nat_eq, nat_lt, unwrap_or}
-use Rattle.std.proofs.lemmas.Bool.{cases_lt, cond-true, cond-false, eq-eqb, eqb-true, false≢true, le-ltb, lt-ltb, ltb-false, ltb-true}
+use Rattle.std.proofs.lemmas.Bool.{cases_lt, cond-true, cond-false, eq-eqb, eqb-true, false≢true, false_from_ne_true, le-ltb, lt-ltb, ltb-false, ltb-true}
 use Rattle.std.proofs.lemmas.List.{append-nil, drop_all, drop-append-le, drop-drop, drop-take, get_or-take, take_all, take_more, take-append-drop, take-append-le, take-take}
 use Rattle.std.proofs.lemmas.List.Edits.{take-paste}
-use Rattle.std.proofs.lemmas.List.Sums.{fails_before_first, passes_at_first, prefix_len-le-length}
+use Rattle.std.proofs.lemmas.List.Sums.{fails_before_first, passes_at_first, position_or_len_is, prefix_len-le-length}
 use Rattle.std.proofs.lemmas.Slice.{take-put_mid}
 use Rattle.std.proofs.Math.Seq.{drop-append_seam, paste, take-append-add}
 use borrow.Rule.Slice.PartMut.{put_mid}
+use Rattle.memchr.specs.Find.{IsFirstByte, is_byte}
 use Rattle.ttw_text.specs.Lines.{lines}
 use Rattle.ttw_text.proofs.LineLemmas.{is_feed, lines_at, lines_at_end, lines-append, without_feed-append, without_feed-none}
 use Rattle.ttw_io.specs.Outside.{Told, untold, missing, file, ReadsAt}
@@ -37,6 +38,15 @@ none_at_all bytes long k d below = no_feed_at bytes k d (omega arith)
 
 feed_within : (bytes : List ℕ) → first_feed bytes ≤ length bytes
 feed_within bytes = prefix_len-le-length _ bytes
+
+-- the place that a search for the byte answers
+pub feed_place : (bytes : List ℕ) (r : Option ℕ) → IsFirstByte (is_byte 10) bytes r → r ≡ position is_feed bytes
+feed_place bytes None none =
+    let end = position_or_len_is is_feed bytes (length bytes) 0 (omega arith) (λ k below. false_from_ne_true _ (none k (omega arith) below)) (λ below. absurd (omega arith)) in
+    sym (cond-false _ _ _ (le-ltb (first_feed bytes) (length bytes) (omega (arith, end))))
+feed_place bytes (Some k) found =
+    let at = position_or_len_is is_feed bytes k 0 (omega (arith, found.0.high)) (λ i below. false_from_ne_true _ (found.0.before i (omega arith) below)) (λ _. found.1) in
+    sym (cond-true _ _ _ (lt-ltb (first_feed bytes) (length bytes) (omega (arith, at, found.0.high))) ∙ ap Some at)
 
 -- the place is the one that a search finds, or the length
 pub first_feed_is : (bytes : List ℕ) → unwrap_or (position is_feed bytes) (length bytes) ≡ first_feed bytes

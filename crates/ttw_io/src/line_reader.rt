@@ -8,6 +8,7 @@ ghost use Rattle.ttw_io.specs.LineReading.{Answers, EndsSearch, IsFirst, IsOf, N
 ghost use Rattle.ttw_io.specs.Outside.{Rose};
 
 use crate::outside::{Failed, Files};
+use memchr::memchr;
 use std::alloc::{AllocError, Global};
 use std::marker::Model;
 
@@ -37,7 +38,7 @@ impl From<Failed> for LineEnd {
 fn place_of_feed(text: &[u8]) -> Option<usize>
     ensures { result ≡ position (λ b. b == 10) text.now }
 {
-    text.iter().position(|b| *b == b'\n')
+    memchr(b'\n', text)
 }
 
 /// Hands out the lines of a file in order. All its memory is taken when it is made.
