@@ -1,3 +1,4 @@
+pub mod FrontNumbers
 pub mod LineLemmas
 pub mod NumberLemmas
 pub mod PlaceLemmas

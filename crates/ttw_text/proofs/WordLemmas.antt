@@ -50,7 +50,7 @@ name_is_word text name =
     let pass = AllPass-from_list_all is_name_byte text (and_parts _ _ name).1 in
     λ k d below. (name_byte_not _ 32 (pass k d below) refl, name_byte_not _ 10 (pass k d below) refl)
 
-digits_are_word : (ds : List ℕ) → all_ascii_digits ds ≡ true → IsWord ds
+pub digits_are_word : (ds : List ℕ) → all_ascii_digits ds ≡ true → IsWord ds
 digits_are_word [] all = λ k d below. absurd (omega arith)
 digits_are_word (c ∷ cs) all =
     let here = and_parts _ _ all in

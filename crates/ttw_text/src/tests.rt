@@ -34,6 +34,17 @@ fn reads_up_to_a_limit(rt: HostRuntime) {
 }
 
 #[test]
+fn takes_numbers_one_by_one(rt: HostRuntime) {
+    let mut parts = words(b"7 100 101 01  1a 18446744073709551615");
+    for number in [Some(7), Some(100), None, None, None, None, None] {
+        assert_eq!(rt; parts.next_number(100), Some(number));
+    }
+    assert_eq!(rt; parts.next_number(100), None);
+    let mut widest = words(b"18446744073709551615");
+    assert_eq!(rt; widest.next_number(u64::MAX), Some(Some(u64::MAX)));
+}
+
+#[test]
 fn names_have_one_to_32_bytes(rt: HostRuntime) {
     for text in ["a", "z_09", "abcdefghijklmnopqrstuvwxyz_01234"] {
         assert!(rt; is_name(text.as_bytes()), "{text}");

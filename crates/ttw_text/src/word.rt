@@ -1,13 +1,14 @@
 //! The words of a line.
 
-ghost use Rattle.std.specs.Prelude.{◌≡◌, ◌∷◌};
+ghost use Rattle.std.specs.Prelude.{◌≡◌, ◌∷◌, [], IfNone, IfSome};
 ghost use Rattle.std.specs.List.{list_all};
 ghost use Rattle.std.specs.Option.{option_copied};
 ghost use Rattle.ttw_text.specs.Names as names;
-ghost use Rattle.ttw_text.specs.Words.{is_empty, only, only_name, parts, parts_left};
+ghost use Rattle.ttw_text.specs.Words.{TakesNumber, is_empty, only, only_name, parts, parts_left};
 
 use crate::bytes::place_of;
 use crate::names::is_name;
+use crate::numbers::{front_number, read_up_to};
 use std::marker::Model;
 
 /// The parts of a line that are not taken yet. Contracts see them as a list.
@@ -50,6 +51,26 @@ impl<'a> Parts<'a> {
         ensures { result ≡ self.now }
     {
         Parts { rest: self.rest }
+    }
+
+    /// Takes the next part, and answers the number that it spells, where it is at most `most`.
+    /// `None` stands for the end of the parts.
+    pub fn next_number(&mut self, most: u64) -> Option<Option<u64>>
+        ensures end { IfNone result ((self.old ≡ []) × (self.new ≡ [])) }
+        ensures number { IfSome result (λ n. TakesNumber most self.old self.new n) }
+    {
+        let line = self.rest?;
+        match front_number(line) {
+            Some((number, rest)) => {
+                self.rest = rest;
+                Some(Some(number).filter(|n| *n <= most))
+            }
+            None => {
+                let (first, rest) = first_part(line);
+                self.rest = rest;
+                Some(read_up_to(first, most))
+            }
+        }
     }
 
     /// Whether no part is left.
