@@ -1,6 +1,7 @@
 pub mod Bounded
 pub mod Efforts
 pub mod Home
+pub mod Linking
 pub mod Marks
 pub mod Queues
 pub mod Raises

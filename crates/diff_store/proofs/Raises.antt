@@ -46,7 +46,7 @@ places y w i vs cs ws l ec ew = record {
   waits = λ x ne. get_or-set_other ws y x true false ne;
 }
 
-module _ (ds : List Diff) (i : ℕ) (vs : List ℤ) (cs : List ℕ) (chain ws : List Bool) (within : i < length ds) (state : Raising ds vs cs chain ws (at ds i).x (i + 1)) where
+module _ (ds : List Diff) (i : ℕ) (vs : List ℤ) (cs : List ℕ) (chain ws : List Bool) (within : i < length ds) (state : Raising ds vs cs chain ws (at ds i).x i) where
   abbrev forced : ℤ
   forced = listed vs (at ds i).x -ℤ (at ds i).c
 
@@ -99,7 +99,7 @@ module _ (ds : List Diff) (i : ℕ) (vs : List ℤ) (cs : List ℕ) (chain ws : 
     }
 
   -- a constraint that is met
-  pub met_state : Meets (listed vs) (at ds i) → Raising ds vs cs chain ws (at ds i).x i
+  pub met_state : Meets (listed vs) (at ds i) → Raising ds vs cs chain ws (at ds i).x (i + 1)
   met_state m = record {
     some = state.some;
     causes_size = state.causes_size;
@@ -115,12 +115,12 @@ module _ (ds : List Diff) (i : ℕ) (vs : List ℤ) (cs : List ℕ) (chain ws : 
     held = state.held;
     awaits = λ j l. ⊎_elim
         (λ (e : Meets (listed vs) (at ds j)). inl e)
-        (λ (o : (waits_in ws (at ds j).x ≡ true) ⊎ (((at ds j).x ≡ (at ds i).x) × (j < i + 1))). ⊎_elim
+        (λ (o : (waits_in ws (at ds j).x ≡ true) ⊎ (((at ds j).x ≡ (at ds i).x) × (i ≤ j))). ⊎_elim
         (λ (e : waits_in ws (at ds j).x ≡ true). inr (inl e))
-        (λ (e : ((at ds j).x ≡ (at ds i).x) × (j < i + 1)). ⊎_elim
-        (λ (less : j < i). inr (inr (e.0, less)))
-        (λ (ge : i ≤ j). let e1 = e.1 in inl (subst (λ k. Meets (listed vs) (at ds k)) (let s : i ≡ j = omega (arith, e1, ge) in s) m))
-        (cases_lt j i))
+        (λ (e : ((at ds j).x ≡ (at ds i).x) × (i ≤ j)). ⊎_elim
+        (λ (less : j < i + 1). let e1 = e.1 in inl (subst (λ k. Meets (listed vs) (at ds k)) (let s : i ≡ j = omega (arith, e1, less) in s) m))
+        (λ (ge : i + 1 ≤ j). inr (inr (e.0, ge)))
+        (cases_lt j (i + 1)))
         o)
         (state.awaits j l);
   }
@@ -201,20 +201,20 @@ module _ (ds : List Diff) (i : ℕ) (vs : List ℤ) (cs : List ℕ) (chain ws : 
       met_here : ((at ds i).x ≡ (at ds i).y → ⊥) → Meets (listed vs') (at ds i)
       met_here o = let a = p.values (at ds i).x o in let v = p.value in omega (arith, ints, a, v)
 
-      awaits_after : (j : ℕ) → j < length ds → Awaits ds vs' ws' (at ds i).x i j
+      awaits_after : (j : ℕ) → j < length ds → Awaits ds vs' ws' (at ds i).x (i + 1) j
       awaits_after j l = ⊎_elim
           (λ (e : (at ds j).x ≡ (at ds i).y). inr (inl (here (waits_in ws') _ _ _ p.wait e)))
           (λ (n : (at ds j).x ≡ (at ds i).y → ⊥). ⊎_elim
           (λ (m : Meets (listed vs) (at ds j)). inl (let a = p.values (at ds j).x n in let b = rises (at ds j).y in omega (arith, ints, a, b, m)))
-          (λ (o : (waits_in ws (at ds j).x ≡ true) ⊎ (((at ds j).x ≡ (at ds i).x) × (j < i + 1))). ⊎_elim
+          (λ (o : (waits_in ws (at ds j).x ≡ true) ⊎ (((at ds j).x ≡ (at ds i).x) × (i ≤ j))). ⊎_elim
           (λ (e : waits_in ws (at ds j).x ≡ true). inr (inl (p.waits (at ds j).x n ∙ e)))
-          (λ (e : ((at ds j).x ≡ (at ds i).x) × (j < i + 1)). ⊎_elim
-          (λ (l' : j < i). inr (inr (e.0, l')))
-          (λ (ge : i ≤ j).
+          (λ (e : ((at ds j).x ≡ (at ds i).x) × (i ≤ j)). ⊎_elim
+          (λ (less' : j < i + 1).
           let e1 = e.1 in
-          let s : i ≡ j = omega (arith, e1, ge) in
+          let s : i ≡ j = omega (arith, e1, less') in
           inl (subst (λ k. Meets (listed vs') (at ds k)) s (met_here (λ f. n (e.0 ∙ f)))))
-          (cases_lt j i))
+          (λ (ge : i + 1 ≤ j). inr (inr (e.0, ge)))
+          (cases_lt j (i + 1)))
           o)
           (state.awaits j l))
           (cases_eq (at ds j).x (at ds i).y)
@@ -250,7 +250,7 @@ module _ (ds : List Diff) (i : ℕ) (vs : List ℤ) (cs : List ℕ) (chain ws : 
             subst (λ j. Descends ds (listed vs') (beside cs') chain k (at ds j).x z) (sym c) (descends_still k (at ds (beside cs x)).x z d.3),
           )
 
-      raised_state : length cs' ≡ length vs' → length ws' ≡ length vs' → Raising ds vs' cs' chain ws' (at ds i).x i
+      raised_state : length cs' ≡ length vs' → length ws' ≡ length vs' → Raising ds vs' cs' chain ws' (at ds i).x (i + 1)
       raised_state ec ew = record {
         some = state.some;
         causes_size = ec;
@@ -275,7 +275,7 @@ module _ (ds : List Diff) (i : ℕ) (vs : List ℤ) (cs : List ℕ) (chain ws : 
       }
 
     -- y rises to what is forced, and waits
-    pub rises_state : (marked chain (at ds i).y ≡ true → ⊥) → (at ds i).y < length vs → Raising ds (set vs (at ds i).y forced) (set cs (at ds i).y i) chain (set ws (at ds i).y true) (at ds i).x i
+    pub rises_state : (marked chain (at ds i).y ≡ true → ⊥) → (at ds i).y < length vs → Raising ds (set vs (at ds i).y forced) (set cs (at ds i).y i) chain (set ws (at ds i).y true) (at ds i).x (i + 1)
     rises_state ne low = raised_state ne _ _ _
         (places (at ds i).y forced i vs cs ws low state.causes_size state.waits_size)
         (length-set cs (at ds i).y i ∙ state.causes_size ∙ sym (length-set vs (at ds i).y forced))

@@ -6,7 +6,8 @@ use Rattle.std.proofs.lemmas.List.{length-set, get_or-set_other}
 use Rattle.tick_num.specs.declared.differences.Diff.{Diff}
 use Rattle.tick_num.specs.Differences.{Meets, listed}
 use Rattle.diff_store.specs.Leasts.{at, MeetsFirst, LeastOfFirst, Low}
-use Rattle.diff_store.specs.Chains.{IsLatest, Chained, linked, reach}
+use Rattle.diff_store.specs.declared.chains.Links.{Links}
+use Rattle.diff_store.specs.Chains.{IsEarliest, Chained, linked, begin}
 use Rattle.diff_store.specs.Causes.{beside, marked, newest, Chain, HeldByFirst}
 use Rattle.diff_store.specs.Raising.{waits_in, NoneWaits, Raising, Awaits, left_to_do}
 
@@ -30,74 +31,55 @@ left_to ds vs cs chain ws ws' x b x' b' size awaits s = record {
 
 module _ (ds : List Diff) (vs : List ℤ) (cs : List ℕ) (chain ws : List Bool) where
   -- only the constraints of the chain are left
-  pub narrowed : (x b : ℕ) (link : Option ℕ) → IsLatest ds x b link → Raising ds vs cs chain ws x b → Raising ds vs cs chain ws x (reach link)
-  narrowed x b link latest s = left_to ds vs cs chain ws ws x b x (reach link) s.waits_size
+  pub narrowed : (x b : ℕ) (link : Option ℕ) → IsEarliest ds x b link → Raising ds vs cs chain ws x b → Raising ds vs cs chain ws x (begin ds link)
+  narrowed x b link earliest s = left_to ds vs cs chain ws ws x b x (begin ds link) s.waits_size
       (λ i l. ⊎_elim
       (λ (m : Meets (listed vs) (at ds i)). inl m)
-      (λ (o : (waits_in ws (at ds i).x ≡ true) ⊎ (((at ds i).x ≡ x) × (i < b))). ⊎_elim
+      (λ (o : (waits_in ws (at ds i).x ≡ true) ⊎ (((at ds i).x ≡ x) × (b ≤ i))). ⊎_elim
       (λ (w : waits_in ws (at ds i).x ≡ true). inr (inl w))
-      (λ (e : ((at ds i).x ≡ x) × (i < b)). ⊎_elim
-      (λ (less : i < reach link). inr (inr (e.0, less)))
-      (λ (ge : reach link ≤ i). absurd (latest.none_between i ge e.1 e.0))
-      (cases_lt i (reach link)))
+      (λ (e : ((at ds i).x ≡ x) × (b ≤ i)). ⊎_elim
+      (λ (less : i < begin ds link). absurd (earliest.none_between i e.1 less e.0))
+      (λ (ge : begin ds link ≤ i). inr (inr (e.0, ge)))
+      (cases_lt i (begin ds link)))
       o)
       (s.awaits i l))
       s
 
   -- none is left
-  pub looked_at : (x x' : ℕ) → Raising ds vs cs chain ws x 0 → Raising ds vs cs chain ws x' 0
-  looked_at x x' s = left_to ds vs cs chain ws ws x 0 x' 0 s.waits_size
+  pub looked_at : (x x' : ℕ) → Raising ds vs cs chain ws x (length ds) → Raising ds vs cs chain ws x' (length ds)
+  looked_at x x' s = left_to ds vs cs chain ws ws x (length ds) x' (length ds) s.waits_size
       (λ i l. ⊎_elim
       (λ (m : Meets (listed vs) (at ds i)). inl m)
-      (λ (o : (waits_in ws (at ds i).x ≡ true) ⊎ (((at ds i).x ≡ x) × (i < 0))). ⊎_elim
+      (λ (o : (waits_in ws (at ds i).x ≡ true) ⊎ (((at ds i).x ≡ x) × (length ds ≤ i))). ⊎_elim
       (λ (w : waits_in ws (at ds i).x ≡ true). inr (inl w))
-      (λ (e : ((at ds i).x ≡ x) × (i < 0)). absurd (let e1 = e.1 in omega (arith, e1)))
+      (λ (e : ((at ds i).x ≡ x) × (length ds ≤ i)). absurd (let e1 = e.1 in omega (arith, e1, l)))
       o)
       (s.awaits i l))
       s
 
   -- a waiting variable is taken
-  pub taken : (x : ℕ) → Raising ds vs cs chain ws 0 0 → Raising ds vs cs chain (set ws x false) x (length ds)
-  taken x s = left_to ds vs cs chain ws (set ws x false) 0 0 x (length ds) (length-set ws x false ∙ s.waits_size)
+  pub taken : (x : ℕ) → Raising ds vs cs chain ws 0 (length ds) → Raising ds vs cs chain (set ws x false) x 0
+  taken x s = left_to ds vs cs chain ws (set ws x false) 0 (length ds) x 0 (length-set ws x false ∙ s.waits_size)
       (λ i l. ⊎_elim
-      (λ (e : (at ds i).x ≡ x). inr (inr (e, l)))
+      (λ (e : (at ds i).x ≡ x). inr (inr (e, omega arith)))
       (λ (ne : (at ds i).x ≡ x → ⊥). ⊎_elim
       (λ (m : Meets (listed vs) (at ds i)). inl m)
-      (λ (o : (waits_in ws (at ds i).x ≡ true) ⊎ (((at ds i).x ≡ 0) × (i < 0))). ⊎_elim
+      (λ (o : (waits_in ws (at ds i).x ≡ true) ⊎ (((at ds i).x ≡ 0) × (length ds ≤ i))). ⊎_elim
       (λ (w : waits_in ws (at ds i).x ≡ true). inr (inl (let ne' : (at ds i).x ≢ x = ne in get_or-set_other ws x (at ds i).x false false ne' ∙ w)))
-      (λ (e : ((at ds i).x ≡ 0) × (i < 0)). absurd (let e1 = e.1 in omega (arith, e1)))
+      (λ (e : ((at ds i).x ≡ 0) × (length ds ≤ i)). absurd (let e1 = e.1 in omega (arith, e1, l)))
       o)
       (s.awaits i l))
       (cases_eq (at ds i).x x))
       s
 
-  -- the older constraints from the x of the newest one are met, since that keeps its value
-  pub newest_done : (b : ℕ) → b ≡ length ds - 1 → Raising ds vs cs chain ws (newest ds).x b → Raising ds vs cs chain ws 0 0
-  newest_done b e s = left_to ds vs cs chain ws ws (newest ds).x b 0 0 s.waits_size
-      (λ i l. ⊎_elim
-      (λ (m : Meets (listed vs) (at ds i)). inl m)
-      (λ (o : (waits_in ws (at ds i).x ≡ true) ⊎ (((at ds i).x ≡ (newest ds).x) × (i < b))). ⊎_elim
-      (λ (w : waits_in ws (at ds i).x ≡ true). inr (inl w))
-      (λ (h : ((at ds i).x ≡ (newest ds).x) × (i < b)).
-      let h1 = h.1 in
-      let m = s.least.solves i (omega (arith, h1, e)) in
-      let a = s.above (at ds i).y in
-      let v = ap (listed vs) h.0 in
-      let u = ap s.base h.0 in
-      let k = s.kept (newest ds).x s.own in
-      inl (omega (arith, ints, m, a, v, u, k)))
-      o)
-      (s.awaits i l))
-      s
-
   -- nothing waits any more
-  pub settled : NoneWaits ws → Raising ds vs cs chain ws 0 0 → LeastOfFirst (length ds) ds (listed vs)
+  pub settled : NoneWaits ws → Raising ds vs cs chain ws 0 (length ds) → LeastOfFirst (length ds) ds (listed vs)
   settled none s = record {
     solves = λ i l. ⊎_elim
         (λ (m : Meets (listed vs) (at ds i)). m)
-        (λ (o : (waits_in ws (at ds i).x ≡ true) ⊎ (((at ds i).x ≡ 0) × (i < 0))). ⊎_elim
+        (λ (o : (waits_in ws (at ds i).x ≡ true) ⊎ (((at ds i).x ≡ 0) × (length ds ≤ i))). ⊎_elim
         (λ (w : waits_in ws (at ds i).x ≡ true). absurd (both_ways (waits_in ws (at ds i).x) (none (at ds i).x) w))
-        (λ (e : ((at ds i).x ≡ 0) × (i < 0)). absurd (let e1 = e.1 in omega (arith, e1)))
+        (λ (e : ((at ds i).x ≡ 0) × (length ds ≤ i)). absurd (let e1 = e.1 in omega (arith, e1, l)))
         o)
         (s.awaits i l);
     from_zero = λ x. let z = s.least.from_zero x in let a = s.above x in omega (arith, ints, z, a);
@@ -120,7 +102,7 @@ held_more j k ds v c le h = record {
 
 -- before the newest constraint is looked at
 pub raising_init : (ds : List Diff) (vs : List ℤ) (cs : List ℕ) (chain ws : List Bool) → 0 < length ds → LeastOfFirst (length ds - 1) ds (listed vs) → Low (listed vs) → HeldByFirst (length ds - 1) ds (listed vs) (beside cs) → length cs ≡ length vs → length ws ≡ length vs →
-    marked chain (newest ds).x ≡ true → Chain ds (listed vs) (beside cs) chain (newest ds).x → Raising ds vs cs chain ws (newest ds).x (length ds - 1 + 1)
+    marked chain (newest ds).x ≡ true → Chain ds (listed vs) (beside cs) chain (newest ds).x → Raising ds vs cs chain ws (newest ds).x (length ds - 1)
 raising_init ds vs cs chain ws some least low held ec ew own descends = record {
   some = some;
   causes_size = ec;
@@ -154,39 +136,36 @@ least_met ds v some h met = record {
 -- ---- along the chain of x
 pub record Along (ds : List Diff) (x : ℕ) (link : Option ℕ) (vs : List ℤ) (cs : List ℕ) (chain ws : List Bool) (most size : ℕ) : Type 0 where
   pub bound : ℕ
-  pub bounded : bound ≤ length ds
-  pub latest : IsLatest ds x bound link
-  pub state : Raising ds vs cs chain ws x (reach link)
+  pub earliest : IsEarliest ds x bound link
+  pub state : Raising ds vs cs chain ws x (begin ds link)
   pub falls : left_to_do vs ws ≤ most
   pub waits : length ws ≡ size
 
-pub along_init : (n : ℕ) (ds : List Diff) (heads nexts : List (Option ℕ)) (x : ℕ) (vs : List ℤ) (cs : List ℕ) (chain ws : List Bool) → Chained n ds heads nexts → x < n → Raising ds vs cs chain ws x (length ds) → Along ds x (linked heads x) vs cs chain ws (left_to_do vs ws) (length ws)
-along_init n ds heads nexts x vs cs chain ws chained low s = record {
-  bound = length ds;
-  bounded = omega arith;
-  latest = chained.head x low;
-  state = narrowed ds vs cs chain ws x (length ds) (linked heads x) (chained.head x low) s;
+pub along_init : (n : ℕ) (ds : List Diff) (links : Links) (x : ℕ) (vs : List ℤ) (cs : List ℕ) (chain ws : List Bool) → Chained n ds links → x < n → Raising ds vs cs chain ws x 0 → Along ds x (linked links.firsts.items x) vs cs chain ws (left_to_do vs ws) (length ws)
+along_init n ds links x vs cs chain ws chained low s = record {
+  bound = 0;
+  earliest = chained.first x low;
+  state = narrowed ds vs cs chain ws x 0 (linked links.firsts.items x) (chained.first x low) s;
   falls = omega arith;
   waits = refl;
 }
 
 module _ (ds : List Diff) (x i : ℕ) (vs : List ℤ) (cs : List ℕ) (chain ws : List Bool) (most size : ℕ) (a : Along ds x (Some i) vs cs chain ws most size) where
-  pub along_within : i < length ds
-  along_within = let b = a.bounded in let l = a.latest.within in omega (arith, b, l)
-
-  pub along_more : (n : ℕ) (heads nexts : List (Option ℕ)) (vs' : List ℤ) (cs' : List ℕ) (ws' : List Bool) → Chained n ds heads nexts → Raising ds vs' cs' chain ws' (at ds i).x i → left_to_do vs' ws' ≤ left_to_do vs ws → length ws' ≡ length ws → Along ds x (linked nexts i) vs' cs' chain ws' most size
-  along_more n heads nexts vs' cs' ws' chained s less same =
-      let latest = subst (λ y. IsLatest ds y i (linked nexts i)) a.latest.same (chained.next i along_within) in
+  pub along_more : (n : ℕ) (links : Links) (vs' : List ℤ) (cs' : List ℕ) (ws' : List Bool) → Chained n ds links → Raising ds vs' cs' chain ws' (at ds i).x (i + 1) → left_to_do vs' ws' ≤ left_to_do vs ws → length ws' ≡ length ws → Along ds x (linked links.newer.items i) vs' cs' chain ws' most size
+  along_more n links vs' cs' ws' chained s less same =
+      let earliest = subst (λ y. IsEarliest ds y (i + 1) (linked links.newer.items i)) a.earliest.same (chained.newer i a.earliest.within) in
       record {
-        bound = i;
-        bounded = let w = along_within in omega (arith, w);
-        latest = latest;
-        state = narrowed ds vs' cs' chain ws' x i (linked nexts i) latest (subst (λ y. Raising ds vs' cs' chain ws' y i) a.latest.same s);
+        bound = i + 1;
+        earliest = earliest;
+        state = narrowed ds vs' cs' chain ws' x (i + 1) (linked links.newer.items i) earliest (subst (λ y. Raising ds vs' cs' chain ws' y (i + 1)) a.earliest.same s);
         falls = let f = a.falls in omega (arith, less, f);
         waits = same ∙ a.waits;
       }
 
+  pub along_falls : (n : ℕ) (links : Links) → Chained n ds links → length ds - begin ds (linked links.newer.items i) < length ds - i
+  along_falls n links chained = let f = (chained.newer i a.earliest.within).from in let w = a.earliest.within in omega (arith, f, w)
+
 -- ---- until none waits
 pub record Settling (ds : List Diff) (vs : List ℤ) (cs : List ℕ) (chain ws : List Bool) (size : ℕ) : Type 0 where
-  pub state : Raising ds vs cs chain ws 0 0
+  pub state : Raising ds vs cs chain ws 0 (length ds)
   pub waits : length ws ≡ size

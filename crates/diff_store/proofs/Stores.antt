@@ -12,7 +12,8 @@ use Rattle.diff_store.specs.declared.trail.Was.{Was}
 use Rattle.diff_store.specs.Bounds.{Small}
 use Rattle.diff_store.specs.Leasts.{at, MeetsFirst, LeastOfFirst}
 use Rattle.diff_store.specs.Causes.{beside, IsCause, HeldByFirst}
-use Rattle.diff_store.specs.Chains.{IsLatest, Chained, linked}
+use Rattle.diff_store.specs.declared.chains.Links.{Links}
+use Rattle.diff_store.specs.Chains.{IsLatest, IsEarliest, Chained, linked}
 use Rattle.diff_store.specs.Raising.{NoneWaits}
 use Rattle.diff_store.specs.Trails.{Trailing, since, value_before, cause_before, SamePast}
 use Rattle.diff_store.specs.Standing.{Solved, Answered}
@@ -201,12 +202,16 @@ linked-none zero x = refl
 linked-none (suc n) zero = refl
 linked-none (suc n) (suc x) = linked-none n x
 
-pub empty_chained : (n : ℕ) → Chained n [] (replicate n None) []
-empty_chained n = record {
-  heads_size = length-replicate n None;
-  nexts_size = refl;
-  head = λ x l. subst (IsLatest [] x 0) (sym (linked-none n x)) (record { within = omega arith; same = tt; none_between = λ i a b e. omega (arith, b) });
-  next = λ i l. absurd (omega (arith, l));
+pub empty_chained : (n : ℕ) (links : Links) → links.firsts.items ≡ replicate n None → links.lasts.items ≡ replicate n None → Chained n [] links
+empty_chained n links firsts lasts = record {
+  firsts_size = ap length firsts ∙ length-replicate n None;
+  lasts_size = ap length lasts ∙ length-replicate n None;
+  newer_room = omega arith;
+  older_room = omega arith;
+  first = λ x l. subst (IsEarliest [] x 0) (sym (ap (λ os. linked os x) firsts ∙ linked-none n x)) (record { within = tt; from = omega arith; same = tt; none_between = λ i a b e. omega (arith, b) });
+  last = λ x l. subst (IsLatest [] x 0) (sym (ap (λ os. linked os x) lasts ∙ linked-none n x)) (record { within = omega arith; same = tt; none_between = λ i a b e. omega (arith, b) });
+  newer = λ i l. absurd (omega (arith, l));
+  older = λ i l. absurd (omega (arith, l));
 }
 
 pub empty_answered : (t : Trailing) (cs cycle : List ℕ) (n : ℕ) → t.starts ≡ [] → Answered [] t (replicate n (pos 0)) cs cycle

@@ -1,5 +1,5 @@
 -- Values that the newest constraint has raised
-use Rattle.std.specs.Prelude.{◌≡◌, ℕ, ◌+◌, ◌*◌, ◌-◌, ◌<◌, ◌⊎◌, Bool, true, List, length, slice_index_or, false, sum_by, count_by, ℤ, pos, ◌-ℤ◌, ◌≤ℤ◌, unsigned_abs}
+use Rattle.std.specs.Prelude.{◌≡◌, ℕ, ◌+◌, ◌*◌, ◌-◌, ◌<◌, ◌≤◌, ◌⊎◌, Bool, true, List, length, slice_index_or, false, sum_by, count_by, ℤ, pos, ◌-ℤ◌, ◌≤ℤ◌, unsigned_abs}
 use Rattle.tick_num.specs.declared.differences.Diff.{Diff}
 use Rattle.tick_num.specs.Differences.{Meets, listed}
 use Rattle.diff_store.specs.Leasts.{at, MeetsFirst, FromZero, LeastOfFirst, Low}
@@ -13,11 +13,11 @@ waits_in waits x = slice_index_or waits x false
 abbrev pub NoneWaits : List Bool → Type 0
 NoneWaits waits = (x : ℕ) → waits_in waits x ≡ false
 
--- the constraint at a position is met, or its x waits, or it is one of those from x before the bound
+-- the constraint at a position is met, or its x waits, or it is one of those from x from the bound on
 abbrev pub Awaits : List Diff → List ℤ → List Bool → ℕ → ℕ → ℕ → Type 0
-Awaits ds vs waits x bound i = Meets (listed vs) (at ds i) ⊎ ((waits_in waits (at ds i).x ≡ true) ⊎ (((at ds i).x ≡ x) × (i < bound)))
+Awaits ds vs waits x bound i = Meets (listed vs) (at ds i) ⊎ ((waits_in waits (at ds i).x ≡ true) ⊎ (((at ds i).x ≡ x) × (bound ≤ i)))
 
--- values above the least ones of the older constraints, and none higher than the newest one forces; what is still to be looked at are the constraints from waiting variables, and those from x before the bound
+-- values above the least ones of the older constraints, and none higher than the newest one forces; what is still to be looked at are the constraints from waiting variables, and those from x from the bound on
 pub record Raising (ds : List Diff) (vs : List ℤ) (causes : List ℕ) (chain waits : List Bool) (x bound : ℕ) : Type 0 where
   pub some : 0 < length ds
   pub causes_size : length causes ≡ length vs

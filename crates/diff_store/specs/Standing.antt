@@ -27,7 +27,7 @@ pub record Standing (s : Inside) : Type 0 where
   pub fits : length s.list.items ≤ s.constraints
   pub range : InRange s.variables s.list.items
   pub small : All Small s.list.items
-  pub chained : Chained s.variables s.list.items s.heads.items s.nexts.items
+  pub chained : Chained s.variables s.list.items s.links
   pub answered : Answered s.list.items s.trail s.values.items s.causes.items (drop s.start s.cycle.items)
   pub values : length s.values.items ≡ s.variables
   pub causes : length s.causes.items ≡ s.variables
@@ -40,4 +40,5 @@ pub record Standing (s : Inside) : Type 0 where
   pub waits : length s.worklist ≡ s.variables
   pub none_waits : NoneWaits s.worklist
   pub list_room : s.constraints ≤ vec_capacity s.list
-  pub nexts_room : s.constraints ≤ vec_capacity s.nexts
+  pub newer_room : length s.links.newer.items ≡ s.constraints
+  pub older_room : length s.links.older.items ≡ s.constraints

@@ -9,6 +9,7 @@ ghost use Rattle.diff_store.specs.Causes.{beside, HeldByFirst, LeadsHome};
 ghost use Rattle.diff_store.specs.Raising.{NoneWaits};
 ghost use Rattle.diff_store.specs.Trails.{SamePast};
 
+use crate::chains::Links;
 use crate::cycles::mark_chain;
 use crate::raising::{answer_newest, is_met};
 use crate::trail::Trail;
@@ -21,8 +22,7 @@ use tick_num::{Diff, Time};
 /// trail.
 pub(crate) fn answer(
     list: &[Diff],
-    heads: &[Option<u32>],
-    nexts: &[Option<u32>],
+    links: &Links,
     chain: &mut Marks,
     values: &mut [Time],
     causes: &mut [u32],
@@ -34,7 +34,7 @@ pub(crate) fn answer(
     requires long { length list.now < 2 ^ 32 }
     requires range { InRange (length values.old) list.now }
     requires small { All Small list.now }
-    requires chained { Chained (length values.old) list.now heads.now nexts.now }
+    requires chained { Chained (length values.old) list.now links.now }
     requires least { LeastOfFirst (length list.now - 1) list.now (listed values.old) }
     requires held { HeldByFirst (length list.now - 1) list.now
         (listed values.old) (beside causes.old) }
@@ -67,5 +67,5 @@ pub(crate) fn answer(
     }
     trail.ready();
     mark_chain(list, values, causes, newest.x, chain);
-    answer_newest(list, heads, nexts, chain, values, causes, trail, worklist)
+    answer_newest(list, links, chain, values, causes, trail, worklist)
 }

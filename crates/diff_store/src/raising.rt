@@ -10,6 +10,7 @@ ghost use Rattle.diff_store.specs.Causes.{beside, marked, newest, Chain, HeldByF
 ghost use Rattle.diff_store.specs.Raising.{Raising, NoneWaits, left_to_do};
 ghost use Rattle.diff_store.specs.Trails.{Kept, KeepsPast};
 
+use crate::chains::Links;
 use crate::trail::Trail;
 use crate::turn_marks::Marks;
 use crate::worklist::Worklist;
@@ -45,10 +46,10 @@ fn raise(
     requires size { length trail.old.kept ≡ length values.old }
     requires kept { Kept trail.old }
     requires state { Raising list.now values.old causes.old chain.now worklist.old
-        (at list.now position).x (position + 1) }
+        (at list.now position).x position }
 
     ensures state { OnTrue result (Raising list.now values.new causes.new chain.now worklist.new
-        (at list.now position).x position) }
+        (at list.now position).x (position + 1)) }
     ensures falls { OnTrue result
         (left_to_do values.new worklist.new ≤ left_to_do values.old worklist.old) }
     ensures home { OnFalse result (LeadsHome list.now causes.new position) }
@@ -77,8 +78,7 @@ fn raise(
 /// chain.
 fn raise_from(
     list: &[Diff],
-    heads: &[Option<u32>],
-    nexts: &[Option<u32>],
+    links: &Links,
     variable: u32,
     chain: &Marks,
     values: &mut [Time],
@@ -88,16 +88,16 @@ fn raise_from(
 ) -> Option<u32>
     requires range { InRange (length values.old) list.now }
     requires small { All Small list.now }
-    requires chained { Chained (length values.old) list.now heads.now nexts.now }
+    requires chained { Chained (length values.old) list.now links.now }
     requires variable { variable < length values.old }
     requires chain { length chain.now ≡ length values.old }
     requires size { length trail.old.kept ≡ length values.old }
     requires kept { Kept trail.old }
     requires state { Raising list.now values.old causes.old chain.now worklist.old
-        variable (length list.now) }
+        variable 0 }
 
     ensures state { IfNone result (Raising list.now values.new causes.new chain.now worklist.new
-        variable 0) }
+        variable (length list.now)) }
     ensures falls { IfNone result
         (left_to_do values.new worklist.new ≤ left_to_do values.old worklist.old) }
     ensures home { IfSome result (λ position. LeadsHome list.now causes.new position) }
@@ -106,12 +106,12 @@ fn raise_from(
         (beside causes.old) (beside causes.new) }
     ensures waits { length worklist.new ≡ length worklist.old }
 {
-    let mut link = heads[variable as usize];
+    let mut link = links.first(variable);
     while let Some(position) = link {
         if !raise(list, position, chain, values, causes, trail, worklist) {
             return Some(position);
         }
-        link = nexts[position as usize];
+        link = links.next(position);
     }
     None
 }
@@ -120,8 +120,7 @@ fn raise_from(
 /// the chain would rise.
 fn settle(
     list: &[Diff],
-    heads: &[Option<u32>],
-    nexts: &[Option<u32>],
+    links: &Links,
     chain: &Marks,
     values: &mut [Time],
     causes: &mut [u32],
@@ -130,11 +129,12 @@ fn settle(
 ) -> Option<u32>
     requires range { InRange (length values.old) list.now }
     requires small { All Small list.now }
-    requires chained { Chained (length values.old) list.now heads.now nexts.now }
+    requires chained { Chained (length values.old) list.now links.now }
     requires chain { length chain.now ≡ length values.old }
     requires size { length trail.old.kept ≡ length values.old }
     requires kept { Kept trail.old }
-    requires state { Raising list.now values.old causes.old chain.now worklist.old 0 0 }
+    requires state { Raising list.now values.old causes.old chain.now worklist.old
+        0 (length list.now) }
 
     ensures least { IfNone result (LeastOfFirst (length list.now) list.now (listed values.new)) }
     ensures held { IfNone result (HeldByFirst (length list.now) list.now
@@ -148,7 +148,7 @@ fn settle(
 {
     while let Some(variable) = worklist.take() {
         if let Some(position) = raise_from(
-            list, heads, nexts, variable, chain, values, causes, trail, worklist,
+            list, links, variable, chain, values, causes, trail, worklist,
         ) {
             return Some(position);
         }
@@ -160,8 +160,7 @@ fn settle(
 /// position of a constraint from which the causes lead back to itself.
 pub(crate) fn answer_newest(
     list: &[Diff],
-    heads: &[Option<u32>],
-    nexts: &[Option<u32>],
+    links: &Links,
     chain: &Marks,
     values: &mut [Time],
     causes: &mut [u32],
@@ -172,7 +171,7 @@ pub(crate) fn answer_newest(
     requires long { length list.now < 2 ^ 32 }
     requires range { InRange (length values.old) list.now }
     requires small { All Small list.now }
-    requires chained { Chained (length values.old) list.now heads.now nexts.now }
+    requires chained { Chained (length values.old) list.now links.now }
     requires least { LeastOfFirst (length list.now - 1) list.now (listed values.old) }
     requires low { Low (listed values.old) }
     requires held { HeldByFirst (length list.now - 1) list.now
@@ -201,5 +200,5 @@ pub(crate) fn answer_newest(
     if !raise(list, position, chain, values, causes, trail, worklist) {
         return Some(position);
     }
-    settle(list, heads, nexts, chain, values, causes, trail, worklist)
+    settle(list, links, chain, values, causes, trail, worklist)
 }

@@ -5,7 +5,7 @@ ghost use Rattle.tick_num.specs.Differences.{LeastValues, MeetsAll, NegativeCycl
 ghost use Rattle.diff_store.specs.Bounds.{Small};
 
 use crate::answering::answer;
-use crate::chains::{link, no_heads, unlink};
+use crate::chains::{Links, link, unlink};
 use crate::cycles::close;
 use crate::trail::Trail;
 use crate::turn_marks::Marks;
@@ -38,10 +38,8 @@ pub struct Store {
     /// How many constraints the list may have.
     constraints: usize,
     list: Vec<Diff>,
-    /// The newest constraint from each variable.
-    heads: Vec<Option<u32>>,
-    /// Beside each constraint the next older one from its `x`.
-    nexts: Vec<Option<u32>>,
+    /// The constraints from each variable.
+    links: Links,
     /// The value of each variable.
     values: Vec<Time>,
     /// The position of the constraint that last raised each variable.
@@ -89,8 +87,7 @@ impl Store {
             variables,
             constraints: len,
             list: Vec::with_capacity(alloc, len)?,
-            heads: no_heads(alloc, variables)?,
-            nexts: Vec::with_capacity(alloc, len)?,
+            links: Links::reserve(alloc, variables, len)?,
             values: vec![in alloc; 0; variables]?,
             causes: vec![in alloc; 0; variables]?,
             chain: Marks::reserve(alloc, variables)?,
@@ -115,11 +112,10 @@ impl Store {
         ensures variables { self.new.variables ≡ self.old.variables }
         ensures constraints { self.new.constraints ≡ self.old.constraints }
     {
-        link(&mut self.list, &mut self.heads, &mut self.nexts, d);
+        link(&mut self.list, &mut self.links, d);
         let closing = answer(
             &self.list,
-            &self.heads,
-            &self.nexts,
+            &self.links,
             &mut self.chain,
             &mut self.values,
             &mut self.causes,
@@ -141,7 +137,7 @@ impl Store {
         ensures variables { self.new.variables ≡ self.old.variables }
         ensures constraints { self.new.constraints ≡ self.old.constraints }
     {
-        unlink(&mut self.list, &mut self.heads, &mut self.nexts);
+        unlink(&mut self.list, &mut self.links);
         self.trail.undo(&mut self.values, &mut self.causes);
     }
 

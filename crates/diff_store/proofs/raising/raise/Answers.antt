@@ -1,4 +1,4 @@
-use Rattle.std.proofs.Common.{◌≢◌, ◌≤◌, ℤ, pos, ◌-ℤ◌, List, Bool, set, refl, subst, sym, ◌∙◌, arith}
+use Rattle.std.proofs.Common.{◌≢◌, ◌+◌, ◌≤◌, ℤ, pos, ◌-ℤ◌, List, Bool, set, refl, subst, sym, ◌∙◌, arith}
 use Rattle.std.proofs.lemmas.Bool.{both_ways}
 use Rattle.std.proofs.lemmas.List.{get_or-set_other}
 use Rattle.tick_num.specs.Differences.{diff, listed}
@@ -48,8 +48,8 @@ returns-clause-state c =
     let v = listed vs in
     let cs' = set c.args.causes.now d.y c.args.position in
     let is = modest_is (v d.x) d.c (modest c.args.list.now c.args.position c.args.values.now c.args.causes.now c.args.chain.now c.args.worklist.now c.requires.within c.requires.state c.requires.small) in
-    subst (λ (z : ℤ). Raising ds (set vs d.y z) cs' c.args.chain.now c.add.new.self d.x c.args.position) (sym is)
-    (subst (λ (ws : List Bool). Raising ds (set vs d.y (v d.x -ℤ d.c)) cs' c.args.chain.now ws d.x c.args.position) (sym c.add.ensures)
+    subst (λ (z : ℤ). Raising ds (set vs d.y z) cs' c.args.chain.now c.add.new.self d.x (c.args.position + 1)) (sym is)
+    (subst (λ (ws : List Bool). Raising ds (set vs d.y (v d.x -ℤ d.c)) cs' c.args.chain.now ws d.x (c.args.position + 1)) (sym c.add.ensures)
     (rises_state c.args.list.now c.args.position c.args.values.now c.args.causes.now c.args.chain.now c.args.worklist.now c.requires.within c.requires.state
     (test_broken (v d.x) d.c (v d.y) (modest c.args.list.now c.args.position c.args.values.now c.args.causes.now c.args.chain.now c.args.worklist.now c.requires.within c.requires.state c.requires.small) (value_zero c.args.list.now c.args.position c.args.values.now c.args.causes.now c.args.chain.now c.args.worklist.now c.requires.within c.requires.state c.requires.small d.y) (value_top c.args.list.now c.args.position c.args.values.now c.args.causes.now c.args.chain.now c.args.worklist.now c.requires.within c.requires.state c.requires.small d.y) c.if-forced-value.false)
     (λ on. both_ways (marked c.args.chain.now d.y) (sym c.has.ensures ∙ c.if-has.false) on)

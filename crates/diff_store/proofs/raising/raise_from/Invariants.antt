@@ -1,7 +1,7 @@
-use Rattle.std.proofs.Common.{length}
+use Rattle.std.proofs.Common.{length, ◌-◌}
 use Rattle.tick_num.specs.Differences.{listed}
 use Rattle.diff_store.specs.Causes.{beside}
-use Rattle.diff_store.specs.Chains.{reach}
+use Rattle.diff_store.specs.Chains.{begin}
 use Rattle.diff_store.specs.Raising.{left_to_do}
 use Rattle.diff_store.specs.Trails.{KeepsPast}
 use Rattle.diff_store.proofs.Settling.{Along}
@@ -13,4 +13,4 @@ invariant-loop-link l =
     × KeepsPast l.fn.trail l.trail (listed l.fn.values) (listed l.values) (beside l.fn.causes) (beside l.causes)
 
 abbrev pub decreases-loop-link : goal.decreases-loop-link
-decreases-loop-link l = reach l.link
+decreases-loop-link l = length l.list - begin l.list l.link

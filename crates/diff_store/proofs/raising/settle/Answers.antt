@@ -11,7 +11,7 @@ pub raise_from-requires-clause-state : goal.raise_from-requires-clause-state
 raise_from-requires-clause-state c =
     let ds = c.args.list.now in
     let l = c.loop-variable in
-    subst (λ (ws : List Bool). Raising ds l.values l.causes c.args.chain.now ws c.in-Some.variable (length ds)) (sym c.in-Some.ensures.taken)
+    subst (λ (ws : List Bool). Raising ds l.values l.causes c.args.chain.now ws c.in-Some.variable 0) (sym c.in-Some.ensures.taken)
     (taken ds l.values l.causes c.args.chain.now l.worklist c.in-Some.variable l.invariant.0.state)
 
 pub loop-variable-preserved : goal.loop-variable-preserved

@@ -1,4 +1,4 @@
-use Rattle.std.proofs.Common.{◌≡◌, ◌-◌, ◌<◌, ℕ, ℤ, List, Option, All, length, drop, sym, ap, ◌∙◌, subst, arith}
+use Rattle.std.proofs.Common.{◌≡◌, ◌-◌, ◌<◌, ℕ, ℤ, List, All, length, drop, sym, ap, ◌∙◌, subst, arith}
 use Rattle.std.specs.Vec.{with_items}
 use Rattle.std.proofs.lemmas.List.{length-take-le, with_items_is}
 use Rattle.std.proofs.lemmas.List.Elements.{All-take}
@@ -28,24 +28,22 @@ invariant_of-self c =
     let some : 0 < length ds = subst (λ (st : Storing). 0 < length st.list) (sym c.self.view_is) c.requires in
     let shorter : length ds' ≡ length ds - 1 = ap length list ∙ length-take-le (length ds - 1) ds (omega arith) in
     let starts : length t'.starts ≡ length ds' = (let a = c.undo.ensures.starts in let b = inv.starts in omega (arith, a, b, shorter)) in
-    let values_fit : length vs' ≡ s.values.len = omega (arith, c.undo.auto.values, c.deref_mut-2.ensures.len) in
-    let values_size : length vs' ≡ n = omega (arith, c.undo.auto.values, ap length c.deref_mut-2.ensures.value, inv.values) in
+    let values_fit : length vs' ≡ s.values.len = omega (arith, c.undo.auto.values, c.deref_mut.ensures.len) in
+    let values_size : length vs' ≡ n = omega (arith, c.undo.auto.values, ap length c.deref_mut.ensures.value, inv.values) in
     let values_is = with_items_is s.values vs' values_fit in
-    let causes_fit : length cs' ≡ s.causes.len = omega (arith, c.undo.auto.causes, c.deref_mut-3.ensures.len) in
-    let causes_size : length cs' ≡ n = omega (arith, c.undo.auto.causes, ap length c.deref_mut-3.ensures.value, inv.causes) in
+    let causes_fit : length cs' ≡ s.causes.len = omega (arith, c.undo.auto.causes, c.deref_mut-2.ensures.len) in
+    let causes_size : length cs' ≡ n = omega (arith, c.undo.auto.causes, ap length c.deref_mut-2.ensures.value, inv.causes) in
     let causes_is = with_items_is s.causes cs' causes_fit in
-    let heads_fit : length c.unlink.new.heads ≡ s.heads.len = omega (arith, c.unlink.auto.heads, c.deref_mut.ensures.len) in
-    let heads_size : length c.unlink.new.heads ≡ n = omega (arith, c.unlink.auto.heads, ap length c.deref_mut.ensures.value, inv.chained.heads_size) in
-    let past = subst (λ (us : List ℕ). SamePast (length t'.starts) s.trail t' (listed s.values.items) (listed vs') (beside us) (beside cs')) c.deref_mut-3.ensures.value
-    (subst (λ (us : List ℤ). SamePast (length t'.starts) s.trail t' (listed us) (listed vs') (beside c.deref_mut-3.result.now) (beside cs')) c.deref_mut-2.ensures.value c.undo.ensures.past) in
+    let chained = subst (λ k. Chained k ds' c.unlink.new.links) (c.unlink.ensures.variables ∙ inv.chained.firsts_size) c.unlink.ensures.chained in
+    let past = subst (λ (us : List ℕ). SamePast (length t'.starts) s.trail t' (listed s.values.items) (listed vs') (beside us) (beside cs')) c.deref_mut-2.ensures.value
+    (subst (λ (us : List ℤ). SamePast (length t'.starts) s.trail t' (listed us) (listed vs') (beside c.deref_mut-2.result.now) (beside cs')) c.deref_mut.ensures.value c.undo.ensures.past) in
     record {
       few = inv.few;
       long = inv.long;
       fits = omega (arith, shorter, inv.fits);
       range = subst (InRange n) (sym list) (All-take (λ (d : Diff). (d.x < n) × (d.y < n)) (length ds - 1) ds inv.range);
       small = subst (λ (cs : List Diff). All Small cs) (sym list) (All-take Small (length ds - 1) ds inv.small);
-      chained = subst (λ (hs : List (Option ℕ)). Chained n ds' hs c.unlink.new.nexts.items) (sym (with_items_is s.heads c.unlink.new.heads heads_fit))
-          (subst (λ k. Chained k ds' c.unlink.new.heads c.unlink.new.nexts.items) heads_size c.unlink.ensures.chained);
+      chained = chained;
       answered = subst (λ (vs : List ℤ). Answered ds' t' vs (with_items s.causes cs').items cycle) (sym values_is)
           (subst (λ (cs : List ℕ). Answered ds' t' vs' cs cycle) (sym causes_is)
           (popped ds ds' s.trail t' s.values.items vs' s.causes.items cs' cycle inv.answered some list shorter starts past));
@@ -60,5 +58,6 @@ invariant_of-self c =
       waits = inv.waits;
       none_waits = inv.none_waits;
       list_room = omega (arith, c.unlink.ensures.capacity, inv.list_room);
-      nexts_room = omega (arith, c.unlink.ensures.nexts_capacity, inv.nexts_room);
+      newer_room = c.unlink.ensures.newer ∙ inv.newer_room;
+      older_room = c.unlink.ensures.older ∙ inv.older_room;
     }

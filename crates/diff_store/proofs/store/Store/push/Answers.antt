@@ -1,4 +1,4 @@
-use Rattle.std.proofs.Common.{◌≡◌, ◌<◌, ℕ, ℤ, List, Option, length, drop, refl, sym, ap, ◌∙◌, subst, arith, inl, inr}
+use Rattle.std.proofs.Common.{◌≡◌, ◌<◌, ℕ, ℤ, List, length, drop, refl, sym, ap, ◌∙◌, subst, arith, inl, inr}
 use Rattle.std.specs.Vec.{with_items}
 use Rattle.std.proofs.lemmas.List.{length_push, with_items_is}
 use Rattle.tick_num.specs.declared.differences.Diff.{Diff}
@@ -17,7 +17,7 @@ pub answer-closing-requires-clause-range : goal.answer-closing-requires-clause-r
 answer-closing-requires-clause-range c =
     let s = c.self.inside in
     let inv = c.self.invariant in
-    let passed : length c.deref_mut-2.result.now ≡ s.variables = ap length c.deref_mut-2.ensures.value ∙ inv.values in
+    let passed : length c.deref_mut.result.now ≡ s.variables = ap length c.deref_mut.ensures.value ∙ inv.values in
     subst (λ n. InRange n c.deref.result.now) (sym passed)
     (pushed_range s.variables s.list.items c.deref.result.now c.args.d (c.deref.ensures.value ∙ c.link.ensures.list) inv.range
     (subst (λ (st : Storing). c.args.d.x < st.variables) (sym c.self.view_is) c.requires.x)
@@ -31,14 +31,14 @@ answer-closing-requires-clause-least c =
     let s = c.self.inside in
     let inv = c.self.invariant in
     let least = now_least s.list.items s.trail s.values.items s.causes.items (drop s.start s.cycle.items) inv.answered inv.starts (subst (λ (st : Storing). (v : ℕ → ℤ) × MeetsAll v st.list) (sym c.self.view_is) c.requires.solvable) in
-    least_of_older s.list.items c.deref.result.now c.args.d (c.deref.ensures.value ∙ c.link.ensures.list) s.values.items c.deref_mut-2.result.now c.deref_mut-2.ensures.value least
+    least_of_older s.list.items c.deref.result.now c.args.d (c.deref.ensures.value ∙ c.link.ensures.list) s.values.items c.deref_mut.result.now c.deref_mut.ensures.value least
 
 pub answer-closing-requires-clause-held : goal.answer-closing-requires-clause-held
 answer-closing-requires-clause-held c =
     let s = c.self.inside in
     let inv = c.self.invariant in
     let held = now_held s.list.items s.trail s.values.items s.causes.items (drop s.start s.cycle.items) inv.answered inv.starts (subst (λ (st : Storing). (v : ℕ → ℤ) × MeetsAll v st.list) (sym c.self.view_is) c.requires.solvable) in
-    held_of_older s.list.items c.deref.result.now c.args.d (c.deref.ensures.value ∙ c.link.ensures.list) s.values.items c.deref_mut-2.result.now s.causes.items c.deref_mut-3.result.now c.deref_mut-2.ensures.value c.deref_mut-3.ensures.value held
+    held_of_older s.list.items c.deref.result.now c.args.d (c.deref.ensures.value ∙ c.link.ensures.list) s.values.items c.deref_mut.result.now s.causes.items c.deref_mut-2.result.now c.deref_mut.ensures.value c.deref_mut-2.ensures.value held
 
 pub invariant_of-self : goal.invariant_of-self
 invariant_of-self c =
@@ -53,17 +53,16 @@ invariant_of-self c =
     let list = c.link.ensures.list in
     let size = ap length list ∙ length_push ds c.args.d in
     let room : length ds < s.constraints = subst (λ (st : Storing). length st.list < st.constraints) (sym c.self.view_is) c.requires.room in
-    let heads_fit : length c.link.new.heads ≡ s.heads.len = omega (arith, c.link.auto.heads, c.deref_mut.ensures.len) in
-    let heads_size : length c.link.new.heads ≡ n = omega (arith, c.link.auto.heads, ap length c.deref_mut.ensures.value, inv.chained.heads_size) in
-    let values_fit : length vs' ≡ s.values.len = omega (arith, c.answer-closing.auto.values, c.deref_mut-2.ensures.len) in
-    let values_size : length vs' ≡ n = omega (arith, c.answer-closing.auto.values, ap length c.deref_mut-2.ensures.value, inv.values) in
+    let chained = subst (λ k. Chained k ds' c.link.new.links) (c.link.ensures.variables ∙ inv.chained.firsts_size) c.link.ensures.chained in
+    let values_fit : length vs' ≡ s.values.len = omega (arith, c.answer-closing.auto.values, c.deref_mut.ensures.len) in
+    let values_size : length vs' ≡ n = omega (arith, c.answer-closing.auto.values, ap length c.deref_mut.ensures.value, inv.values) in
     let values_is = with_items_is s.values vs' values_fit in
-    let causes_fit : length cs' ≡ s.causes.len = omega (arith, c.answer-closing.auto.causes, c.deref_mut-3.ensures.len) in
-    let causes_size : length cs' ≡ n = omega (arith, c.answer-closing.auto.causes, ap length c.deref_mut-3.ensures.value, inv.causes) in
+    let causes_fit : length cs' ≡ s.causes.len = omega (arith, c.answer-closing.auto.causes, c.deref_mut-2.ensures.len) in
+    let causes_size : length cs' ≡ n = omega (arith, c.answer-closing.auto.causes, ap length c.deref_mut-2.ensures.value, inv.causes) in
     let causes_is = with_items_is s.causes cs' causes_fit in
     let starts : length t'.starts ≡ length ds' = c.answer-closing.ensures.starts ∙ ap length c.deref.ensures.value in
-    let past = subst (λ (us : List ℕ). SamePast (length s.trail.starts) s.trail t' (listed s.values.items) (listed vs') (beside us) (beside cs')) c.deref_mut-3.ensures.value
-    (subst (λ (us : List ℤ). SamePast (length s.trail.starts) s.trail t' (listed us) (listed vs') (beside c.deref_mut-3.result.now) (beside cs')) c.deref_mut-2.ensures.value c.answer-closing.ensures.past) in
+    let past = subst (λ (us : List ℕ). SamePast (length s.trail.starts) s.trail t' (listed s.values.items) (listed vs') (beside us) (beside cs')) c.deref_mut-2.ensures.value
+    (subst (λ (us : List ℤ). SamePast (length s.trail.starts) s.trail t' (listed us) (listed vs') (beside c.deref_mut-2.result.now) (beside cs')) c.deref_mut.ensures.value c.answer-closing.ensures.past) in
     let cycle = drop s.start s.cycle.items in
     let solved = now_solved ds s.trail s.values.items s.causes.items cycle inv.answered (subst (λ (st : Storing). (v : ℕ → ℤ) × MeetsAll v st.list) (sym c.self.view_is) c.requires.solvable) in
     let least = subst (λ (es : List Diff). LeastOfFirst (length es) es (listed vs')) c.deref.ensures.value c.in_default.ensures.least in
@@ -76,8 +75,7 @@ invariant_of-self c =
           (subst (λ (st : Storing). c.args.d.x < st.variables) (sym c.self.view_is) c.requires.x)
           (subst (λ (st : Storing). c.args.d.y < st.variables) (sym c.self.view_is) c.requires.y);
       small = pushed_small ds ds' c.args.d list inv.small c.requires.small;
-      chained = subst (λ (hs : List (Option ℕ)). Chained n ds' hs c.link.new.nexts.items) (sym (with_items_is s.heads c.link.new.heads heads_fit))
-          (subst (λ k. Chained k ds' c.link.new.heads c.link.new.nexts.items) heads_size c.link.ensures.chained);
+      chained = chained;
       answered = subst (λ (vs : List ℤ). Answered ds' t' vs (with_items s.causes cs').items cycle) (sym values_is)
           (subst (λ (cs : List ℕ). Answered ds' t' vs' cs cycle) (sym causes_is)
           (pushed_answered ds ds' c.args.d list s.trail t' s.values.items vs' s.causes.items cs' cycle cycle inv.answered solved inv.starts past (inl (solved_now ds' t' (listed vs') (beside cs') starts least held))));
@@ -88,7 +86,8 @@ invariant_of-self c =
       starts = starts;
       kept = c.answer-closing.ensures.size ∙ inv.kept;
       list_room = omega (arith, c.link.ensures.capacity, inv.list_room);
-      nexts_room = omega (arith, c.link.ensures.nexts_capacity, inv.nexts_room);
+      newer_room = c.link.ensures.newer ∙ inv.newer_room;
+      older_room = c.link.ensures.older ∙ inv.older_room;
       cycle = inv.cycle;
       start = inv.start;
       waits = omega (arith, c.answer-closing.ensures.waits, inv.waits);
@@ -113,11 +112,11 @@ pub close-self-inside-requires-clause-range : goal.close-self-inside-requires-cl
 close-self-inside-requires-clause-range c =
     let s = c.self.inside in
     let inv = c.self.invariant in
-    let causes_fit : length c.answer-closing.new.causes ≡ s.causes.len = omega (arith, c.answer-closing.auto.causes, c.deref_mut-3.ensures.len) in
-    let causes_size : length c.answer-closing.new.causes ≡ s.variables = omega (arith, c.answer-closing.auto.causes, ap length c.deref_mut-3.ensures.value, inv.causes) in
-    let passed : length c.deref-5.result.now ≡ s.variables = ap length (c.deref-5.ensures.value ∙ with_items_is s.causes c.answer-closing.new.causes causes_fit) ∙ causes_size in
-    subst (λ n. InRange n c.deref-4.result.now) (sym passed)
-    (pushed_range s.variables s.list.items c.deref-4.result.now c.args.d (c.deref-4.ensures.value ∙ c.link.ensures.list) inv.range
+    let causes_fit : length c.answer-closing.new.causes ≡ s.causes.len = omega (arith, c.answer-closing.auto.causes, c.deref_mut-2.ensures.len) in
+    let causes_size : length c.answer-closing.new.causes ≡ s.variables = omega (arith, c.answer-closing.auto.causes, ap length c.deref_mut-2.ensures.value, inv.causes) in
+    let passed : length c.deref-3.result.now ≡ s.variables = ap length (c.deref-3.ensures.value ∙ with_items_is s.causes c.answer-closing.new.causes causes_fit) ∙ causes_size in
+    subst (λ n. InRange n c.deref-2.result.now) (sym passed)
+    (pushed_range s.variables s.list.items c.deref-2.result.now c.args.d (c.deref-2.ensures.value ∙ c.link.ensures.list) inv.range
     (subst (λ (st : Storing). c.args.d.x < st.variables) (sym c.self.view_is) c.requires.x)
     (subst (λ (st : Storing). c.args.d.y < st.variables) (sym c.self.view_is) c.requires.y))
 
@@ -134,24 +133,23 @@ invariant_of-self-2 c =
     let list = c.link.ensures.list in
     let size = ap length list ∙ length_push ds c.args.d in
     let room : length ds < s.constraints = subst (λ (st : Storing). length st.list < st.constraints) (sym c.self.view_is) c.requires.room in
-    let heads_fit : length c.link.new.heads ≡ s.heads.len = omega (arith, c.link.auto.heads, c.deref_mut.ensures.len) in
-    let heads_size : length c.link.new.heads ≡ n = omega (arith, c.link.auto.heads, ap length c.deref_mut.ensures.value, inv.chained.heads_size) in
-    let values_fit : length vs' ≡ s.values.len = omega (arith, c.answer-closing.auto.values, c.deref_mut-2.ensures.len) in
-    let values_size : length vs' ≡ n = omega (arith, c.answer-closing.auto.values, ap length c.deref_mut-2.ensures.value, inv.values) in
+    let chained = subst (λ k. Chained k ds' c.link.new.links) (c.link.ensures.variables ∙ inv.chained.firsts_size) c.link.ensures.chained in
+    let values_fit : length vs' ≡ s.values.len = omega (arith, c.answer-closing.auto.values, c.deref_mut.ensures.len) in
+    let values_size : length vs' ≡ n = omega (arith, c.answer-closing.auto.values, ap length c.deref_mut.ensures.value, inv.values) in
     let values_is = with_items_is s.values vs' values_fit in
-    let causes_fit : length cs' ≡ s.causes.len = omega (arith, c.answer-closing.auto.causes, c.deref_mut-3.ensures.len) in
-    let causes_size : length cs' ≡ n = omega (arith, c.answer-closing.auto.causes, ap length c.deref_mut-3.ensures.value, inv.causes) in
+    let causes_fit : length cs' ≡ s.causes.len = omega (arith, c.answer-closing.auto.causes, c.deref_mut-2.ensures.len) in
+    let causes_size : length cs' ≡ n = omega (arith, c.answer-closing.auto.causes, ap length c.deref_mut-2.ensures.value, inv.causes) in
     let causes_is = with_items_is s.causes cs' causes_fit in
     let starts : length t'.starts ≡ length ds' = c.answer-closing.ensures.starts ∙ ap length c.deref.ensures.value in
-    let past = subst (λ (us : List ℕ). SamePast (length s.trail.starts) s.trail t' (listed s.values.items) (listed vs') (beside us) (beside cs')) c.deref_mut-3.ensures.value
-    (subst (λ (us : List ℤ). SamePast (length s.trail.starts) s.trail t' (listed us) (listed vs') (beside c.deref_mut-3.result.now) (beside cs')) c.deref_mut-2.ensures.value c.answer-closing.ensures.past) in
+    let past = subst (λ (us : List ℕ). SamePast (length s.trail.starts) s.trail t' (listed s.values.items) (listed vs') (beside us) (beside cs')) c.deref_mut-2.ensures.value
+    (subst (λ (us : List ℤ). SamePast (length s.trail.starts) s.trail t' (listed us) (listed vs') (beside c.deref_mut-2.result.now) (beside cs')) c.deref_mut.ensures.value c.answer-closing.ensures.past) in
     let cycle = drop s.start s.cycle.items in
     let solved = now_solved ds s.trail s.values.items s.causes.items cycle inv.answered (subst (λ (st : Storing). (v : ℕ → ℤ) × MeetsAll v st.list) (sym c.self.view_is) c.requires.solvable) in
     let from = c.close-self-inside.result in
-    let cycle_fits : length c.close-self-inside.new.cycle ≡ s.cycle.len = omega (arith, c.close-self-inside.auto.cycle, c.deref_mut-4.ensures.len) in
-    let cycle_size : length c.close-self-inside.new.cycle ≡ n = omega (arith, c.close-self-inside.auto.cycle, ap length c.deref_mut-4.ensures.value, inv.cycle) in
+    let cycle_fits : length c.close-self-inside.new.cycle ≡ s.cycle.len = omega (arith, c.close-self-inside.auto.cycle, c.deref_mut-3.ensures.len) in
+    let cycle_size : length c.close-self-inside.new.cycle ≡ n = omega (arith, c.close-self-inside.auto.cycle, ap length c.deref_mut-3.ensures.value, inv.cycle) in
     let cycle_is = with_items_is s.cycle c.close-self-inside.new.cycle cycle_fits in
-    let negative = subst (λ (refs : List ℕ). NegativeCycle ds' (drop from refs)) (sym cycle_is) (subst (λ (es : List Diff). NegativeCycle es (drop from c.close-self-inside.new.cycle)) c.deref-4.ensures.value c.close-self-inside.ensures.cycle) in
+    let negative = subst (λ (refs : List ℕ). NegativeCycle ds' (drop from refs)) (sym cycle_is) (subst (λ (es : List Diff). NegativeCycle es (drop from c.close-self-inside.new.cycle)) c.deref-2.ensures.value c.close-self-inside.ensures.cycle) in
     record {
       few = inv.few;
       long = inv.long;
@@ -160,8 +158,7 @@ invariant_of-self-2 c =
           (subst (λ (st : Storing). c.args.d.x < st.variables) (sym c.self.view_is) c.requires.x)
           (subst (λ (st : Storing). c.args.d.y < st.variables) (sym c.self.view_is) c.requires.y);
       small = pushed_small ds ds' c.args.d list inv.small c.requires.small;
-      chained = subst (λ (hs : List (Option ℕ)). Chained n ds' hs c.link.new.nexts.items) (sym (with_items_is s.heads c.link.new.heads heads_fit))
-          (subst (λ k. Chained k ds' c.link.new.heads c.link.new.nexts.items) heads_size c.link.ensures.chained);
+      chained = chained;
       answered = subst (λ (vs : List ℤ). Answered ds' t' vs (with_items s.causes cs').items (drop from (with_items s.cycle c.close-self-inside.new.cycle).items)) (sym values_is)
           (subst (λ (cs : List ℕ). Answered ds' t' vs' cs (drop from (with_items s.cycle c.close-self-inside.new.cycle).items)) (sym causes_is)
           (pushed_answered ds ds' c.args.d list s.trail t' s.values.items vs' s.causes.items cs' cycle (drop from (with_items s.cycle c.close-self-inside.new.cycle).items) inv.answered solved inv.starts past (inr negative)));
@@ -172,7 +169,8 @@ invariant_of-self-2 c =
       starts = starts;
       kept = c.answer-closing.ensures.size ∙ inv.kept;
       list_room = omega (arith, c.link.ensures.capacity, inv.list_room);
-      nexts_room = omega (arith, c.link.ensures.nexts_capacity, inv.nexts_room);
+      newer_room = c.link.ensures.newer ∙ inv.newer_room;
+      older_room = c.link.ensures.older ∙ inv.older_room;
       cycle = ap length cycle_is ∙ cycle_size;
       start = omega (arith, c.close-self-inside.ensures.start, cycle_size);
       waits = omega (arith, c.clear.ensures.size, c.answer-closing.ensures.waits, inv.waits);
@@ -181,14 +179,14 @@ invariant_of-self-2 c =
 
 pub returns-clause-solvable : goal.returns-clause-solvable
 returns-clause-solvable c =
-    let cycle = subst (λ (ds : List Diff). NegativeCycle ds (drop c.close-self-inside.result c.close-self-inside.new.cycle)) c.deref-4.ensures.value c.close-self-inside.ensures.cycle in (
+    let cycle = subst (λ (ds : List Diff). NegativeCycle ds (drop c.close-self-inside.result c.close-self-inside.new.cycle)) c.deref-2.ensures.value c.close-self-inside.ensures.cycle in (
       λ e. cc,
       λ some. absurd (cycles_exclude c.link.new.list.items _ cycle some.0 some.1),
     )
 
 pub returns-clause-closed : goal.returns-clause-closed
 returns-clause-closed c =
-    let cycle = subst (λ (ds : List Diff). NegativeCycle ds (drop c.close-self-inside.result c.close-self-inside.new.cycle)) c.deref-4.ensures.value c.close-self-inside.ensures.cycle in (
+    let cycle = subst (λ (ds : List Diff). NegativeCycle ds (drop c.close-self-inside.result c.close-self-inside.new.cycle)) c.deref-2.ensures.value c.close-self-inside.ensures.cycle in (
       λ _ v m. cycles_exclude c.link.new.list.items _ cycle v m,
       λ _. refl,
     )
