@@ -25,11 +25,11 @@ unfolding raw_mode below spelled
 name_kept seed = each_none _ 8 refl
 
 hyper_is : (seed m : ℕ) → hyper_of (raw_mode seed m) ≡ 1000
-unfolding raw_mode below hyperperiod slots_of
+unfolding raw_mode below hyperperiod
 hyper_is seed m = refl
 
 sizes_kept : (seed m : ℕ) → sizes_at 1000 (drill_raw seed) (raw_mode seed m) ≡ None
-unfolding drill_raw raw_mode below spelled
+unfolding drill_raw raw_mode below spelled slots_of
 sizes_kept seed m = refl
 
 some_apps : (seed m : ℕ) → unless (has_some (raw_mode seed m).apps) (OutOfRange KApp) ≡ None

@@ -1,5 +1,5 @@
 -- In a mode of a set that keeps the rules, the name of a message is that of its number, and leads back to it.
-use Rattle.std.proofs.Common.{◌≡◌, length-take, eq-eqb, append_assoc, ℕ, zero, suc, ◌+◌, ◌<◌, Bool, true, false, not, eqb, ltb, List, [], ◌∷◌, ◌++◌, length, get_or, take, map, Contains, None, refl, sym, ap, subst, ◌∙◌, arith}
+use Rattle.std.proofs.Common.{◌≡◌, pos, length-take, eq-eqb, append_assoc, ℕ, zero, suc, ◌+◌, ◌<◌, Bool, true, false, not, eqb, ltb, List, [], ◌∷◌, ◌++◌, length, get_or, take, map, Contains, None, refl, sym, ap, subst, ◌∙◌, arith}
 use Rattle.std.specs.Prelude.{⊤, Option, Some, unwrap_or, position, unsigned_abs}
 use Rattle.std.specs.List.{AllByRecursion, flat_map, position_or_len}
 use Rattle.std.specs.Str.{bytes_eq}

@@ -54,6 +54,17 @@ pub fn round_of_choice(g: i64, rounds: u64) -> u64
     (g.unsigned_abs() - 1) % rounds + 1
 }
 
+/// The window of a copy.
+#[tactic(auto, using(crate::proofs::Numbers::window_low))]
+fn window_of(times: MessageTimes, copy: u64) -> u64
+    requires times { IsServable times }
+    requires copy { copy < times.copies * (times.hyper / times.period) }
+    ensures value { result ≡ copy / times.copies }
+    ensures low { result < times.hyper / times.period }
+{
+    copy / u64::from(times.copies)
+}
+
 /// How far the times of a window, moved into the hyperperiod of the round instance that `before` come before,
 /// are from those of the message's first window, in ticks.
 #[tactic(auto, using(crate::proofs::Numbers::passed_most, crate::proofs::Numbers::earlier_most))]
@@ -93,7 +104,7 @@ pub fn serve_diffs(opens: u32, closes: u32, times: MessageTimes, copy: u64, g: i
 {
     let before = g.unsigned_abs() - 1;
     let round = (before % times.rounds) as u32;
-    let window = copy / u64::from(times.copies);
+    let window = window_of(times, copy);
     let moved = shift(times, window, before);
     let room = room_for(times.round, moved);
     [

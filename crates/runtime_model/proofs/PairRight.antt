@@ -34,6 +34,7 @@ module _ (number : ℕ) where
     task_period = λ a l. subst (λ z. Contains p.mode.periods (task_at p.mode z).period) (sym (only_task a l)) (0, omega arith, refl);
     wcet = λ a l. subst (λ z. (1 ≤ (task_at p.mode z).wcet) × ((task_at p.mode z).wcet ≤ (task_at p.mode z).period)) (sym (only_task a l)) (omega arith, omega arith);
     deadline = λ a l. subst (λ z. (task_at p.mode z).deadline ≤ hyper p.mode) (sym (only_task a l)) (omega (arith, is_hundred));
+    copies = λ i l. absurd (omega (arith, l));
     message_period = λ i l. absurd (omega (arith, l));
     numbers = λ i j l. absurd (omega (arith, l));
     producer = λ i l. absurd (omega (arith, l));

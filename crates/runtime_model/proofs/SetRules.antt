@@ -74,7 +74,7 @@ kept_senders : (raw : RawSet) → value_rules raw ≡ None → AllByRecursion On
 kept_senders raw e = each_kept (mode_values raw) OneSenders of_mode [] raw.modes (all_kept (set_rules raw) e).1.1.1.1.0
   where
     of_message : (app : RawApp) (earlier : List RawMessage) (m : RawMessage) → message_values app earlier m ≡ None → on_one_node (tasks_named app m.from) ≡ true
-    of_message app earlier m e = unless_kept (on_one_node (tasks_named app m.from)) (TwoSenders m.name) (all_kept (message_rules app earlier m) e).1.1.1.0
+    of_message app earlier m e = unless_kept (on_one_node (tasks_named app m.from)) (TwoSenders m.name) (all_kept (message_rules app earlier m) e).1.1.1.1.0
 
     of_app : (earlier : List RawApp) (app : RawApp) → app_values raw earlier app ≡ None → OneSender app
     of_app earlier app e =

@@ -21,7 +21,7 @@ use Rattle.sched_model.specs.OpenPrefix.{FullOpen}
 use Rattle.sched_model.specs.SearchCost.{LeadsAt}
 use Rattle.sched_model.specs.RefutationTree.{IsTree, IsStored, node_of}
 use Rattle.sched_model.specs.ValidMode.{IsValid, Joins}
-use Rattle.sched_model.specs.Examples.{loop, loop_plan, loop_nodes, loop_refs, LoopExample, HalfExample, SharedExample, blink, BlinkExample}
+use Rattle.sched_model.specs.Examples.{loop_of, loop, loop_plan, double, double_plan, DoubleExample, loop_nodes, loop_refs, LoopExample, HalfExample, SharedExample, blink, BlinkExample}
 use Rattle.sched_model.proofs.Lists.{all_below}
 use Rattle.sched_model.proofs.Graph.{edge_message}
 use Rattle.sched_model.proofs.Forward.{schedule_from}
@@ -81,51 +81,51 @@ one_of : (x a : ℕ) → Contains (x ∷ []) a → x ≡ a
 one_of x a (zero, l, e) = e
 one_of x a (suc k, l, e) = absurd (omega (arith, l))
 
-loop_edges : (a b : ℕ) → IsEdge loop a b → Joins loop (λ x. x) a b
-loop_edges a b e = let w = edge_message loop a b e in at w.0 w.1 w.2 w.3
+loop_edges : (n a b : ℕ) → IsEdge (loop_of n) a b → Joins (loop_of n) (λ x. x) a b
+loop_edges n a b e = let w = edge_message (loop_of n) a b e in at w.0 w.1 w.2 w.3
   where
-    step : (x : ℕ) → x < 2 → Joins loop (λ y. y) x (suc x)
-    step = all_below (λ x. Joins loop (λ y. y) x (suc x)) 2 (joins 0 (lit< tt) (lit< tt) refl refl, (joins 1 (lit< tt) (lit< tt) refl refl, tt))
+    step : (x : ℕ) → x < 2 → Joins (loop_of n) (λ y. y) x (suc x)
+    step = all_below (λ x. Joins (loop_of n) (λ y. y) x (suc x)) 2 (joins 0 (lit< tt) (lit< tt) refl refl, (joins 1 (lit< tt) (lit< tt) refl refl, tt))
       where
-        joins : (x : ℕ) → x < 3 → suc x < 3 → (task_at loop x).period ≡ (task_at loop (suc x)).period → (task_at loop x).deadline ≡ (task_at loop (suc x)).deadline → Joins loop (λ y. y) x (suc x)
+        joins : (x : ℕ) → x < 3 → suc x < 3 → (task_at (loop_of n) x).period ≡ (task_at (loop_of n) (suc x)).period → (task_at (loop_of n) x).deadline ≡ (task_at (loop_of n) (suc x)).deadline → Joins (loop_of n) (λ y. y) x (suc x)
         joins x l k p d = record { from = l; to = k; period = p; deadline = d; later = omega arith }
 
-    moved : (x : ℕ) → x < 2 → x ≡ a → suc x ≡ b → Joins loop (λ y. y) a b
-    moved x l p q = subst (λ y. Joins loop (λ z. z) y b) p (subst (λ y. Joins loop (λ z. z) x y) q (step x l))
+    moved : (x : ℕ) → x < 2 → x ≡ a → suc x ≡ b → Joins (loop_of n) (λ y. y) a b
+    moved x l p q = subst (λ y. Joins (loop_of n) (λ z. z) y b) p (subst (λ y. Joins (loop_of n) (λ z. z) x y) q (step x l))
 
-    at : (i : ℕ) → i < 2 → Contains (message_at loop i).from a → Contains (message_at loop i).to b → Joins loop (λ y. y) a b
+    at : (i : ℕ) → i < 2 → Contains (message_at (loop_of n) i).from a → Contains (message_at (loop_of n) i).to b → Joins (loop_of n) (λ y. y) a b
     at zero l p q = moved 0 (lit< tt) (one_of 0 a p) (one_of 1 b q)
     at (suc zero) l p q = moved 1 (lit< tt) (one_of 1 a p) (one_of 2 b q)
     at (suc (suc i)) l p q = absurd (omega (arith, l))
 
-loop_valid : IsValid loop
+loop_valid : (n : ℕ) → 1 ≤ n → IsValid (loop_of n)
 unfolding hyper
-loop_valid = record {
+loop_valid n some = record {
   round = lit≤ tt;
   periods = λ p c. let e = one_of 100 p c in omega (arith, e);
   hyper_limit = lit≤ tt;
-  task_period = all_below (λ a. Contains loop.periods (task_at loop a).period) 3 (here, (here, (here, tt)));
-  wcet = all_below (λ a. (1 ≤ (task_at loop a).wcet) × ((task_at loop a).wcet ≤ (task_at loop a).period)) 3 ((lit≤ tt, lit≤ tt), ((lit≤ tt, lit≤ tt), ((lit≤ tt, lit≤ tt), tt)));
-  deadline = all_below (λ a. (task_at loop a).deadline ≤ 100) 3 (lit≤ tt, (lit≤ tt, (lit≤ tt, tt)));
-  copies = all_below (λ i. 1 ≤ (message_at loop i).copies) 2 (lit≤ tt, (lit≤ tt, tt));
-  message_period = all_below (λ i. Contains loop.periods (message_at loop i).period) 2 (here, (here, tt));
+  task_period = all_below (λ a. Contains (loop_of n).periods (task_at (loop_of n) a).period) 3 (here, (here, (here, tt)));
+  wcet = all_below (λ a. (1 ≤ (task_at (loop_of n) a).wcet) × ((task_at (loop_of n) a).wcet ≤ (task_at (loop_of n) a).period)) 3 ((lit≤ tt, lit≤ tt), ((lit≤ tt, lit≤ tt), ((lit≤ tt, lit≤ tt), tt)));
+  deadline = all_below (λ a. (task_at (loop_of n) a).deadline ≤ 100) 3 (lit≤ tt, (lit≤ tt, (lit≤ tt, tt)));
+  copies = all_below (λ i. 1 ≤ (message_at (loop_of n) i).copies) 2 (some, (lit≤ tt, tt));
+  message_period = all_below (λ i. Contains (loop_of n).periods (message_at (loop_of n) i).period) 2 (here, (here, tt));
   numbers = λ i j l k e. sym (number i l) ∙ e ∙ number j k;
-  producer = all_below (λ i. (a : ℕ) × Contains (message_at loop i).from a) 2 ((0, (0, lit< tt, refl)), ((1, (0, lit< tt, refl)), tt));
-  consumer = all_below (λ i. (b : ℕ) × Contains (message_at loop i).to b) 2 ((1, (0, lit< tt, refl)), ((2, (0, lit< tt, refl)), tt));
-  consumer_app = λ i b l. all_below (λ i. Contains (message_at loop i).to b → ((task_at loop b).period ≡ (message_at loop i).period) × ((task_at loop b).deadline ≡ (message_at loop i).deadline)) 2 (
-    λ c. subst (λ x. ((task_at loop x).period ≡ (message_at loop 0).period) × ((task_at loop x).deadline ≡ (message_at loop 0).deadline)) (one_of 1 b c) (refl, refl),
-    (λ c. subst (λ x. ((task_at loop x).period ≡ (message_at loop 1).period) × ((task_at loop x).deadline ≡ (message_at loop 1).deadline)) (one_of 2 b c) (refl, refl), tt),
+  producer = all_below (λ i. (a : ℕ) × Contains (message_at (loop_of n) i).from a) 2 ((0, (0, lit< tt, refl)), ((1, (0, lit< tt, refl)), tt));
+  consumer = all_below (λ i. (b : ℕ) × Contains (message_at (loop_of n) i).to b) 2 ((1, (0, lit< tt, refl)), ((2, (0, lit< tt, refl)), tt));
+  consumer_app = λ i b l. all_below (λ i. Contains (message_at (loop_of n) i).to b → ((task_at (loop_of n) b).period ≡ (message_at (loop_of n) i).period) × ((task_at (loop_of n) b).deadline ≡ (message_at (loop_of n) i).deadline)) 2 (
+    λ c. subst (λ x. ((task_at (loop_of n) x).period ≡ (message_at (loop_of n) 0).period) × ((task_at (loop_of n) x).deadline ≡ (message_at (loop_of n) 0).deadline)) (one_of 1 b c) (refl, refl),
+    (λ c. subst (λ x. ((task_at (loop_of n) x).period ≡ (message_at (loop_of n) 1).period) × ((task_at (loop_of n) x).deadline ≡ (message_at (loop_of n) 1).deadline)) (one_of 2 b c) (refl, refl), tt),
   ) i l;
   rank = λ a. a;
   ranks = λ a l. l;
-  edges = loop_edges;
+  edges = loop_edges n;
 }
   where
-    here : Contains loop.periods 100
+    here : Contains (loop_of n).periods 100
     here = (0, lit< tt, refl)
 
-    number : (i : ℕ) → i < 2 → (message_at loop i).number ≡ i
-    number = all_below (λ i. (message_at loop i).number ≡ i) 2 (refl, (refl, tt))
+    number : (i : ℕ) → i < 2 → (message_at (loop_of n) i).number ≡ i
+    number = all_below (λ i. (message_at (loop_of n) i).number ≡ i) 2 (refl, (refl, tt))
 
 loop_full : FullOpen loop 2 (pos 2 ∷ pos 3 ∷ [])
 unfolding decisions hyper
@@ -141,7 +141,7 @@ loop_full = record {
 
 loop_right : IsSchedule loop 2 (loop_plan (pos 23))
 unfolding hyper decisions loop_values
-loop_right = schedule_from loop 2 (pos 2 ∷ pos 3 ∷ []) loop_values loop_valid (lit≤ tt) loop_full loop_solved refl
+loop_right = schedule_from loop 2 (pos 2 ∷ pos 3 ∷ []) loop_values (loop_valid 1 (lit≤ tt)) (lit≤ tt) loop_full loop_solved refl
 
 -- the second round starts before the window opens, and ends after it closes a hyperperiod later
 loop_early : AllServed loop (loop_plan (pos 22)) → ⊥
@@ -166,7 +166,7 @@ pub loop_example : LoopExample
 unfolding base decisions hyper
 loop_example = record {
   plain = refl;
-  valid = loop_valid;
+  valid = loop_valid 1 (lit≤ tt);
   hyperperiod = refl;
   one_round = (refl, refl);
   decided = refl;
@@ -177,6 +177,39 @@ loop_example = record {
   refuted = record { stored = loop_stored; tree = row_one };
   right = loop_right;
   early = loop_early;
+}
+
+-- ---- with two copies
+double_values : ℕ → ℤ
+double_values x = get_or (pos 0 ∷ pos 23 ∷ pos 43 ∷ pos 21 ∷ pos 63 ∷ pos 120 ∷ pos 23 ∷ pos 63 ∷ pos 68 ∷ pos 120 ∷ []) x (pos 0)
+
+abbrev double_list : List ℤ
+double_list = pos 2 ∷ pos 3 ∷ pos 4 ∷ []
+
+double_solved : MeetsAll double_values (in_force double 3 double_list)
+unfolding base decisions hyper double_values
+double_solved = solves double_values (in_force double 3 double_list) refl
+
+double_full : FullOpen double 3 double_list
+unfolding decisions hyper
+double_full = record {
+  full = refl;
+  chosen = all_below (λ k. Contains (alternatives double 3 (take k double_list)) (get_or double_list k (pos 0))) 3 ((1, lit< tt, refl), ((0, lit< tt, refl), ((3, lit< tt, refl), tt)));
+  is_open = record {
+    slots = lit≤ tt;
+    loads = all_below (λ j. load double 3 j double_list ≤ 2) 3 (lit≤ tt, (lit≤ tt, (lit≤ tt, tt)));
+    values = (double_values, double_solved);
+  };
+}
+
+pub double_example : DoubleExample
+unfolding decisions hyper double_values
+double_example = record {
+  needed = refl;
+  decided = refl;
+  second_copy = refl;
+  one_window = refl;
+  right = schedule_from double 3 double_list double_values (loop_valid 2 (lit≤ tt)) (lit≤ tt) double_full double_solved refl;
 }
 
 -- ---- the others

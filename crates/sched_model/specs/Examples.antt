@@ -17,20 +17,28 @@ use Rattle.sched_model.specs.ValidMode.{IsValid}
 abbrev pub task : ℕ → ℕ → ℕ → ℕ → PlainTask
 task number node wcet period = record { number = number; app = 0; node = node; wcet = wcet; period = period; deadline = period }
 
--- a message from one task to one
-abbrev pub message : ℕ → ℕ → ℕ → ℕ → PlainMessage
-message number period from to = record { number = number; period = period; deadline = period; copies = 1; from = from ∷ []; to = to ∷ [] }
+-- a message of so many copies from one task to one
+abbrev pub copied : ℕ → ℕ → ℕ → ℕ → ℕ → PlainMessage
+copied copies number period from to = record { number = number; period = period; deadline = period; copies = copies; from = from ∷ []; to = to ∷ [] }
 
--- a control loop over three nodes: sensing, control, acting
-abbrev pub loop : PlainMode
-loop = record {
+-- of one copy
+abbrev pub message : ℕ → ℕ → ℕ → ℕ → PlainMessage
+message number period from to = copied 1 number period from to
+
+-- a control loop over three nodes: sensing, control, acting; what is sensed is sent so many times
+abbrev pub loop_of : ℕ → PlainMode
+loop_of copies = record {
   slots = 2;
   round = 20;
   gap = 100;
   periods = 100 ∷ [];
   tasks = task 0 1 2 100 ∷ task 1 0 5 100 ∷ task 2 2 1 100 ∷ [];
-  messages = message 0 100 0 1 ∷ message 1 100 1 2 ∷ [];
+  messages = copied copies 0 100 0 1 ∷ message 1 100 1 2 ∷ [];
 }
+
+-- once
+abbrev pub loop : PlainMode
+loop = loop_of 1
 
 -- a mode file that says it
 abbrev pub loop_set : ModeSet
@@ -85,6 +93,27 @@ pub record LoopExample : Type 0 where
   pub refuted : ValidTree loop 1 loop_nodes loop_refs
   pub right : IsSchedule loop 2 (loop_plan (pos 23))
   pub early : AllServed loop (loop_plan (pos 22)) → ⊥
+
+-- the loop whose first message has two copies
+abbrev pub double : PlainMode
+double = loop_of 2
+
+-- a schedule of three rounds: the second and the third carry the first message in one window
+abbrev pub double_plan : Schedule
+double_plan = record {
+  starts = pos 0 ∷ pos 23 ∷ pos 43 ∷ [];
+  tasks = pos 21 ∷ pos 63 ∷ pos 120 ∷ [];
+  messages = (pos 23, pos 63) ∷ (pos 68, pos 120) ∷ [];
+  tables = (1 ∷ []) ∷ (0 ∷ []) ∷ (0 ∷ []) ∷ [];
+}
+
+-- its decisions, where the second copy can be, and that the schedule is right
+pub record DoubleExample : Type 0 where
+  pub needed : instances double ≡ 3
+  pub decided : decisions double ≡ serve 0 0 ∷ serve 0 1 ∷ serve 1 0 ∷ []
+  pub second_copy : alternatives double 3 (pos 2 ∷ []) ≡ pos 3 ∷ pos 4 ∷ []
+  pub one_window : chosen double 3 (serve 0 1) (pos 3) ≡ diff 6 2 (pos 0) ∷ diff 2 7 (negsuc 19) ∷ []
+  pub right : IsSchedule double 3 double_plan
 
 -- a message of period and deadline 50 in a hyperperiod of 100
 abbrev pub half : PlainMode
