@@ -19,3 +19,4 @@ pub mod GoodNames
 pub mod ScheduleRoom
 pub mod OwnParts
 pub mod DocumentRoom
+mod TreesAreValid

@@ -1,5 +1,5 @@
 -- The lines of a valid tree are the nodes of one, and so show that no schedule of so many rounds is right.
-use Rattle.std.proofs.Common.{◌≡◌, ℕ, zero, suc, ◌-◌, ◌<◌, true, ◌&&◌, eqb, ltb, leb, List, [], ◌∷◌, ◌++◌, length, map, refl, sym, subst, ℤ, pos, append_assoc, Some, None}
+use Rattle.std.proofs.Common.{◌≡◌, ℕ, zero, suc, ◌-◌, ◌*◌, ◌<◌, ◌≤◌, true, ◌&&◌, eqb, ltb, leb, List, [], ◌∷◌, ◌++◌, length, map, refl, sym, subst, ℤ, pos, append_assoc, Some, None}
 use Rattle.std.specs.Prelude.{int_lt}
 use Rattle.std.specs.List.{AllByRecursion, list_all}
 use Rattle.std.proofs.lemmas.Bool.{and_parts, ltb-true, leb-true, eqb-true}
@@ -9,7 +9,7 @@ use borrow.Author.Differences.{below_in, lt-true}
 use Rattle.tick_num.specs.declared.differences.Diff.{Diff}
 use Rattle.tick_num.specs.Differences.{named, sum_ℤ, Closes, IsCycle, NegativeCycle}
 use Rattle.sched_model.specs.declared.schedule.Schedule.{Schedule}
-use Rattle.sched_model.specs.PlainMode.{PlainMode}
+use Rattle.sched_model.specs.PlainMode.{PlainMode, instances}
 use Rattle.sched_model.specs.ConstraintProblem.{in_force, alternatives, decisions, load}
 use Rattle.sched_model.specs.RefutationTree.{Node, branch, short, full, cycle, EachOf as EachTree, ValidFrom, IsTree}
 use Rattle.sched_model.specs.RightSchedule.{IsSchedule}
@@ -17,7 +17,7 @@ use Rattle.sched_model.specs.ValidMode.{IsValid}
 use Rattle.sched_model.proofs.Backward.{full_open, made}
 use Rattle.sched_model.proofs.Refutations.{tree_refutes}
 use Rattle.proof_tree.specs.Items.{Branch, Short, Full, Cycle}
-use Rattle.proof_tree.specs.TreeLines.{Items, closes, is_cycle, is_negative, EachOf, ValidLines, TreeStands}
+use Rattle.proof_tree.specs.TreeLines.{Items, closes, is_cycle, is_negative, leaf_holds, EachOf, ValidLines, TreeStands}
 
 closes_is : (x : ℕ) (ds : List Diff) → closes x ds ≡ true → Closes x ds
 closes_is x [] e = absurd cc
@@ -41,6 +41,20 @@ negative_is ds refs e =
       closed = cycle_is (named ds refs) q.1;
       negative = below_in (sum_ℤ (map (λ d. d.c) (named ds refs))) (pos 0) (lt-true (sum_ℤ (map (λ d. d.c) (named ds refs))) (pos 0) p.1);
     }
+
+-- ---- what leaves say
+
+pub short_is : (m : PlainMode) (r : ℕ) (p : List ℤ) → leaf_holds m r p Short ≡ true → r * m.slots < instances m
+short_is m r p e = ltb-true _ _ e
+
+pub full_is : (m : PlainMode) (r : ℕ) (p : List ℤ) (j : ℕ) → leaf_holds m r p (Full j) ≡ true → (1 ≤ j) × (j ≤ r) × (m.slots < load m r (j - 1) p)
+full_is m r p j e =
+    let a = and_parts (leb 1 j && leb j r) (ltb m.slots (load m r (j - 1) p)) e in
+    let b = and_parts (leb 1 j) (leb j r) a.0 in
+    (leb-true _ _ b.0, leb-true _ _ b.1, ltb-true _ _ a.1)
+
+pub negative_cycle_is : (m : PlainMode) (r : ℕ) (p : List ℤ) (refs : List ℕ) → leaf_holds m r p (Cycle refs) ≡ true → NegativeCycle (in_force m r p) refs
+negative_cycle_is m r p refs e = negative_is (in_force m r p) refs e
 
 -- nodes that begin with a tree, whatever comes behind them
 abbrev Nodes : (List Node → List Node → Type 0) → Type 0

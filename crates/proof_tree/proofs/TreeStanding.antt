@@ -45,7 +45,7 @@ negative_test ds refs c =
     (below_zero (sum_ℤ (map (λ d. d.c) (named ds refs))) c.negative)
 
 -- the lines of nodes
-abbrev lines : List Node → Items
+abbrev pub lines : List Node → Items
 lines nodes = map (λ n. Some (node_item n)) nodes
 
 each_stands : (V : ℤ → Items → Items → Type 0) (W : ℤ → List Node → List Node → Type 0) (ls : Items) → ((a : ℤ) (nodes rest : List Node) → W a nodes rest → V a (lines nodes ++ ls) (lines rest ++ ls))
@@ -65,7 +65,7 @@ stands m r n p (full j ∷ nodes) rest ls t = (
 )
 stands m r n p (cycle refs ∷ nodes) rest ls t = (negative_test (in_force m r p) refs t.0, ap (λ (ns : List Node). lines ns ++ ls) t.1)
 
-stored_lines : (refs : List ℕ) (nodes : List TreeNode) → lines (map (node_of refs) nodes) ≡ map (λ item. Some item) (map (stored_item refs) nodes)
+pub stored_lines : (refs : List ℕ) (nodes : List TreeNode) → lines (map (node_of refs) nodes) ≡ map (λ item. Some item) (map (stored_item refs) nodes)
 stored_lines refs [] = refl
 stored_lines refs (n ∷ ns) = ap (λ (l : Items). Some (stored_item refs n) ∷ l) (stored_lines refs ns)
 

@@ -1,5 +1,5 @@
 -- Laws of plan documents.
-use Rattle.std.specs.Prelude.{◌≡◌, ℕ, ◌≤◌, ◌⊎◌, true, List, ◌∷◌, ◌++◌, length, map, Option, Some, None, ⊤, [], ◌+◌}
+use Rattle.std.specs.Prelude.{◌≡◌, ◌↔◌, ℕ, ◌≤◌, ◌⊎◌, true, List, ◌∷◌, ◌++◌, length, map, Option, Some, None, ⊤, [], ◌+◌}
 use Rattle.std.specs.List.{AllZip, AllByRecursion, join_with_byte, flat_map, enumerate_from}
 use Rattle.app_graph.specs.declared.mode_set.ModeSet.{ModeSet}
 use Rattle.app_graph.specs.declared.mode_set.Mode.{Mode}
@@ -51,6 +51,12 @@ abbrev pub ValidTreesFrom : PlainMode → ℕ → List Tree → Type 0
 ValidTreesFrom m r [] = ⊤
 ValidTreesFrom m r (tree ∷ trees) = ValidTree m r tree.nodes tree.refs × ValidTreesFrom m (r + 1) trees
 
+-- the lines are those of a valid tree for r rounds, and then the rest
+pub record HasTree (m : PlainMode) (r : ℕ) (lines rest : Items) : Type 0 where
+  pub tree : Tree
+  pub valid : ValidTree m r tree.nodes tree.refs
+  pub said : lines ≡ map (λ item. Some item) (tree_items tree) ++ rest
+
 -- the lines of a valid tree stand for it, whatever comes behind them
 abbrev pub TreesStand : Type 0
 TreesStand = (m : PlainMode) (r : ℕ) (tree : Tree) (rest : Items) → ValidTree m r tree.nodes tree.refs → TreeStands m r (map (λ item. Some item) (tree_items tree) ++ rest) rest
@@ -59,6 +65,10 @@ TreesStand = (m : PlainMode) (r : ℕ) (tree : Tree) (rest : Items) → ValidTre
 abbrev pub ListsStand : Type 0
 ListsStand = (m : PlainMode) (r : ℕ) (trees : List Tree) (rest : Items) → ValidTreesFrom m r trees →
     TreesFrom m r (length trees) (map (λ item. Some item) (flat_map refuted_items (enumerate_from r trees)) ++ rest) rest
+
+-- lines begin with a valid tree exactly where they are the lines of some nodes and numbers that are a valid tree, and then the rest
+abbrev pub TreesAreValid : Type 0
+TreesAreValid = (m : PlainMode) (r : ℕ) (lines rest : Items) → TreeStands m r lines rest ↔ HasTree m r lines rest
 
 -- each line of an own tree, and the line before them, has room
 abbrev pub OwnTreesHaveRoom : Type 0

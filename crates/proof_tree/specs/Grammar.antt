@@ -1,5 +1,5 @@
 -- The grammar of the lines of a plan document.
-use Rattle.std.specs.Prelude.{ℕ, Bool, false, codes, List, [], ◌∷◌, map, Option, Some, None, if◌then◌else◌, option_map, is_some, unwrap_or}
+use Rattle.std.specs.Prelude.{◌≡◌, ℕ, Bool, false, codes, List, [], ◌∷◌, map, Option, Some, None, if◌then◌else◌, option_map, is_some, unwrap_or}
 use Rattle.std.specs.Option.{option_and_then}
 use Rattle.std.specs.List.{list_all}
 use Rattle.std.specs.Str.{bytes_eq}
@@ -23,6 +23,12 @@ is_number word = is_some (plan_number word)
 -- the number of a word that is one
 abbrev pub value : List ℕ → ℕ
 value word = unwrap_or (plan_number word) 0
+
+-- the first word of a line is taken, and this is its number
+pub record TakesValue (old new : List (List ℕ)) (number : ℕ) : Type 0 where
+  pub word : List ℕ
+  pub first : old ≡ word ∷ new
+  pub spells : number ≡ value word
 
 -- ---- what may follow the first word
 

@@ -1,6 +1,6 @@
 //! Laws of plan documents.
 
-ghost use Rattle.proof_tree.specs.DocumentLaws.{AcceptedAreBest, ListsStand, OneAnswers, OwnDocumentsHaveRoom, OwnPartsMakeDocuments, OwnTreesHaveRoom, RightPartsAreAccepted, TextsAreRead, TreesStand};
+ghost use Rattle.proof_tree.specs.DocumentLaws.{AcceptedAreBest, ListsStand, OneAnswers, OwnDocumentsHaveRoom, OwnPartsMakeDocuments, OwnTreesHaveRoom, RightPartsAreAccepted, TextsAreRead, TreesAreValid, TreesStand};
 ghost use Rattle.proof_tree.specs.Spelled.{LinesAreExact};
 
 use sched_model::laws::own_trees_count_visits;
@@ -29,6 +29,11 @@ pub fn texts_are_read()
 /// The lines of a valid tree stand for it.
 pub fn trees_stand()
     ensures { TreesStand }
+{}
+
+/// Lines stand for a tree exactly where some nodes and numbers are a valid tree whose lines they are.
+pub fn trees_are_valid()
+    ensures { TreesAreValid }
 {}
 
 /// The lines of valid trees, each behind the line with its number of rounds, stand for them.

@@ -9,7 +9,7 @@ mod tree;
 mod words;
 
 pub use document::{write_plan, write_schedule, write_tree};
-pub use lines::{BadLine, PlanLine, item, value};
+pub use lines::{BadLine, PlanLine, item, next_value, value};
 pub use sched_model::TreeNode;
 pub use tree::{ModePart, Tree};
 

@@ -1,9 +1,9 @@
 //! The lines of a plan document, read back.
 
-ghost use Rattle.std.specs.Prelude.{◌≡◌, ◌≤◌, option_map};
+ghost use Rattle.std.specs.Prelude.{◌≡◌, ◌≤◌, [], IfNone, IfSome, option_map};
 ghost use Rattle.std.specs.List.{list_all};
 ghost use Rattle.std.specs.Result.{result_ok};
-ghost use Rattle.proof_tree.specs.Grammar.{item_of, form, is_number, is_one, plan_number};
+ghost use Rattle.proof_tree.specs.Grammar.{TakesValue, item_of, form, is_number, is_one, plan_number};
 ghost use Rattle.proof_tree.specs.Grammar as grammar;
 ghost use Rattle.proof_tree.specs.PlanLines.{meaning};
 
@@ -65,6 +65,18 @@ pub fn value(word: &[u8]) -> u64
     number(word).unwrap_or(0)
 }
 
+/// Takes the next word of a line, and answers its `value`; `None` stands for the end of the line.
+pub fn next_value(parts: &mut Parts<'_>) -> Option<u64>
+    ensures end { IfNone result ((parts.old ≡ []) × (parts.new ≡ [])) }
+    ensures value { IfSome result (λ n. TakesValue parts.old parts.new n) }
+    ensures few { IfSome result (λ n. n ≤ 2000000000000) }
+{
+    match parts.next_number(GREATEST)? {
+        Some(number) => Some(number),
+        None => Some(0),
+    }
+}
+
 /// The number, where one word is left and is one.
 fn one_number(parts: Parts<'_>) -> Option<u64>
     ensures { result ≡ grammar.one_number parts.entry }
@@ -76,7 +88,13 @@ fn one_number(parts: Parts<'_>) -> Option<u64>
 fn are_numbers(parts: &Parts<'_>) -> bool
     ensures { result ≡ list_all is_number parts.now }
 {
-    parts.again().all(|word| number(word).is_some())
+    let mut left = parts.again();
+    while let Some(number) = left.next_number(GREATEST) {
+        if number.is_none() {
+            return false;
+        }
+    }
+    true
 }
 
 /// The words, where they are numbers, and one or more.
