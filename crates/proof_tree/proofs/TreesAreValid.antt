@@ -1,5 +1,5 @@
 -- The lines that stand for a tree are those of a valid one.
-use Rattle.std.proofs.Common.{◌≡◌, ℕ, zero, suc, ◌+◌, ◌-◌, ◌≤◌, List, [], ◌∷◌, ◌++◌, length, take, drop, map, refl, sym, ◌∙◌, ap, subst, arith, append_assoc, length-append, ℤ, Some, None}
+use Rattle.std.proofs.Common.{◌≡◌, ℕ, zero, suc, ◌+◌, ◌≤◌, List, [], ◌∷◌, ◌++◌, length, take, drop, map, refl, sym, ◌∙◌, ap, subst, arith, append_assoc, length-append, ℤ, Some, None}
 use Rattle.std.specs.List.{AllByRecursion}
 use Rattle.std.proofs.Math.Seq.{take-append_seam, drop-append_seam}
 use Rattle.std.proofs.lemmas.List.{append-nil, map-append}
@@ -8,10 +8,9 @@ use Rattle.sched_model.specs.declared.trees.TreeNode.{TreeNode}
 use Rattle.sched_model.specs.declared.trees.TreeNode.TheVariants as stored
 use Rattle.sched_model.specs.PlainMode.{PlainMode}
 use Rattle.sched_model.specs.ConstraintProblem.{alternatives, decisions}
-use Rattle.sched_model.specs.RefutationTree.{Node, branch, short, full, cycle, EachOf as EachTree, ValidFrom, IsTree, node_of, IsStored}
+use Rattle.sched_model.specs.RefutationTree.{Node, branch, short, full, cycle, EachOf as EachTree, ValidFrom, node_of, IsStored}
 use Rattle.proof_tree.specs.declared.tree.Tree.{Tree}
-use Rattle.proof_tree.specs.Items.{Item, Branch, Short, Full, Cycle}
-use Rattle.proof_tree.specs.PlanText.{tree_items}
+use Rattle.proof_tree.specs.Items.{Branch, Short, Full, Cycle}
 use Rattle.proof_tree.specs.TreeLines.{Items, EachOf, ValidLines, TreeStands}
 use Rattle.proof_tree.specs.DocumentLaws.{HasTree, TreesAreValid}
 use Rattle.proof_tree.proofs.TreeRefuting.{short_is, full_is, negative_cycle_is}
