@@ -1,6 +1,6 @@
 -- Lists of registers
-use Rattle.std.proofs.Common.{◌≡◌, ℕ, zero, suc, Bool, true, cond, List, [], ◌∷◌, ◌++◌, map, fold, replicate, Option, Some, None, ℤ, refl, ap, ◌∙◌, length, ◌<◌, drop, slice_set, arith}
-use Rattle.std.proofs.lemmas.List.{length-replicate, length-set}
+use Rattle.std.proofs.Common.{◌≡◌, ℕ, zero, suc, ◌+◌, ◌-◌, ◌≤◌, sym, Bool, true, cond, List, [], ◌∷◌, ◌++◌, map, fold, replicate, Option, Some, None, ℤ, refl, ap, ◌∙◌, length, ◌<◌, drop, slice_set, arith}
+use Rattle.std.proofs.lemmas.List.{length-replicate, length-set, drop-set-lt, drop-drop, drop-replicate, replicate-append-replicate}
 use Rattle.node_tables.specs.declared.tables.OwnMessage.{OwnMessage}
 use Rattle.node_core.specs.Lookup.{consumer_place}
 use Rattle.node_core.specs.Registers.{InRow, RegistersSeen, no_outs, no_ins, no_registers, filled, row_of, emptied_at, emptied_for, begun, ended_with}
@@ -36,6 +36,34 @@ ins_are xs m e h = same_replicate xs m 512 [] e h
 pub length-no_outs : length no_outs ≡ 1024
 unfolding no_outs
 length-no_outs = length-replicate {A = Option ℤ} 1024 None
+
+pub no_outs_is : no_outs ≡ replicate 1024 None
+unfolding no_outs
+no_outs_is = refl
+
+-- where the first ones are emptied and the rest is empty, all are
+pub first_emptied : (new old xs : List (Option ℤ)) (used : ℕ) → new ≡ replicate used None ++ drop used old → old ≡ xs →
+    drop used xs ≡ replicate (1024 - used) None → used ≤ 1024 → new ≡ no_outs
+first_emptied new old xs used e same rest few =
+    e
+    ∙ ap (λ (ys : List (Option ℤ)). replicate used None ++ drop used ys) same
+    ∙ ap (λ (ys : List (Option ℤ)). replicate used None ++ ys) rest
+    ∙ replicate-append-replicate used (1024 - used) None
+    ∙ ap (λ (k : ℕ). replicate {A = Option ℤ} k None) (let all : used + (1024 - used) ≡ 1024 = omega arith in all)
+    ∙ sym no_outs_is
+
+-- what is past the used ones stays empty where one of these is filled
+pub rest_stays : (xs : List (Option ℤ)) (used task most : ℕ) (x : Option ℤ) → drop used xs ≡ replicate (1024 - used) None → used ≤ most → task < most →
+    drop most (slice_set xs task x) ≡ replicate (1024 - most) None
+rest_stays xs used task most x rest more within =
+    let apart : most ≡ used + (most - used) = omega arith in
+    let left : (1024 - used) - (most - used) ≡ 1024 - most = omega arith in
+    drop-set-lt most xs task x within
+    ∙ ap (λ (k : ℕ). drop k xs) apart
+    ∙ sym (drop-drop (most - used) used xs)
+    ∙ ap (λ (ys : List (Option ℤ)). drop (most - used) ys) rest
+    ∙ drop-replicate (most - used) (1024 - used) None
+    ∙ ap (λ (k : ℕ). replicate {A = Option ℤ} k None) left
 
 pub length-no_ins : length no_ins ≡ 512
 unfolding no_ins

@@ -1,6 +1,6 @@
 -- Worked rows: what nodes of a loop of three tasks do, computed from the rules.
 -- `sense` on node 1 sends `m1` to `ctrl` on node 0, which sends `m2` to `act` on node 2. The tick is that of the hyperperiod, of 100 ticks
-use Rattle.std.specs.Prelude.{◌≡◌, ℕ, true, false, List, [], ◌∷◌, Some, None, ℤ, pos, negsuc}
+use Rattle.std.specs.Prelude.{◌≡◌, ℕ, true, false, [], ◌∷◌, Some, None, ℤ, pos, negsuc}
 use Rattle.beacon_codec.specs.declared.packet.Beacon.{Beacon}
 use Rattle.task_body.specs.Body.{first_numbers}
 use Rattle.task_body.specs.Tally.{answer}

@@ -1,6 +1,6 @@
 //! The registers of a node, and its run in progress.
 
-ghost use Rattle.std.specs.Prelude.{◌≡◌, ◌+◌, ◌<◌, ◌≤◌, ◌++◌, [], All, IfOk, None, false, Option, Some, fold, length, replicate, slice_index_or, slice_set};
+ghost use Rattle.std.specs.Prelude.{◌≡◌, ◌+◌, ◌<◌, ◌≤◌, ◌++◌, [], All, IfOk, None, false, Option, Some, drop, fold, length, replicate, slice_index_or, slice_set};
 ghost use Rattle.std.specs.List.{AllPairs};
 ghost use Rattle.std.specs.Option.{option_copied};
 ghost use Rattle.runtime_model.specs.Inputs.{given};
@@ -117,10 +117,66 @@ fn clear_at(flags: &mut ArrayVec<bool, 16>, place: usize)
     }
 }
 
+/// The out registers of all tasks, by their numbers. Contracts see the list of them.
+#[derive(Drop)]
+struct OutList {
+    slots: Vec<Option<i64>>,
+    // The registers from this number on are empty.
+    used: usize,
+}
+
+impl Model for OutList {
+    ghost use Rattle.std.specs.Prelude.{◌≡◌, ◌≤◌, ◌-◌, List, None, Option, drop, length, replicate, ℤ};
+
+    ghost Value = { List (Option ℤ) };
+
+    ghost view = { λ l. l.slots.items };
+
+    ghost invariant = { λ l. (length l.slots.items ≡ 1024) × (l.used ≤ 1024)
+        × (drop l.used l.slots.items ≡ replicate (1024 - l.used) None) };
+}
+
+impl OutList {
+    /// Empty registers, with all their memory.
+    fn make(alloc: Global) -> Result<Self, AllocError>
+        ensures { IfOk result (λ l. l ≡ no_outs) }
+    {
+        Ok(OutList {
+            slots: no_outs(alloc)?,
+            used: 0,
+        })
+    }
+
+    /// The register of a task.
+    fn get(&self, task: u32) -> Option<i64>
+        requires { task < 1024 }
+        ensures { result ≡ slice_index_or self.now task None }
+    {
+        self.slots[task as usize]
+    }
+
+    /// Fills the register of a task.
+    fn set(&mut self, task: u32, value: i64)
+        requires { task < 1024 }
+        ensures { self.new ≡ slice_set self.old task (Some value) }
+    {
+        self.slots[task as usize] = Some(value);
+        self.used = used_with(self.used, task as usize);
+    }
+
+    /// Empties all: those that are past the last used one are empty already.
+    fn empty(&mut self)
+        ensures { self.new ≡ no_outs }
+    {
+        empty_outs(&mut self.slots, self.used);
+        self.used = 0;
+    }
+}
+
 /// The registers of a node. Contracts see them by the numbers of tasks and messages.
 #[derive(Drop)]
 pub(crate) struct Registers {
-    outs: Vec<Option<i64>>,
+    outs: OutList,
     ins: Vec<InRow>,
     run: Option<Run>,
 }
@@ -131,9 +187,9 @@ impl Model for Registers {
 
     ghost Value = { RegistersSeen };
 
-    ghost view = { λ n. record { outs = n.outs.items; ins = n.ins.items; run = n.run } };
+    ghost view = { λ n. record { outs = n.outs; ins = n.ins.items; run = n.run } };
 
-    ghost invariant = { λ n. (length n.outs.items ≡ 1024) × (length n.ins.items ≡ 512) };
+    ghost invariant = { λ n. (length n.outs ≡ 1024) × (length n.ins.items ≡ 512) };
 }
 
 impl Registers {
@@ -142,7 +198,7 @@ impl Registers {
         ensures { IfOk result (λ g. g ≡ no_registers) }
     {
         Ok(Registers {
-            outs: no_outs(alloc)?,
+            outs: OutList::make(alloc)?,
             ins: no_rows(alloc)?,
             run: None,
         })
@@ -152,7 +208,7 @@ impl Registers {
     pub(crate) fn empty(&mut self)
         ensures { self.new ≡ no_registers }
     {
-        empty_outs(&mut self.outs);
+        self.outs.empty();
         empty_rows(&mut self.ins);
         self.run = None;
     }
@@ -162,7 +218,7 @@ impl Registers {
         requires { task < 1024 }
         ensures { result ≡ out_of self.now task }
     {
-        self.outs[task as usize]
+        self.outs.get(task)
     }
 
     /// The values of the out registers of these tasks, where all are full.
@@ -252,7 +308,7 @@ impl Registers {
     {
         match self.run {
             Some(run) if run.task == task => {
-                self.outs[task as usize] = Some(run.value);
+                self.outs.set(task, run.value);
                 self.run = None;
                 Some(run.value)
             }
@@ -283,11 +339,23 @@ fn no_rows(alloc: Global) -> Result<Vec<InRow>, AllocError>
     Ok(rows)
 }
 
-/// Empties the out registers.
-fn empty_outs(outs: &mut [Option<i64>])
-    ensures { outs.new ≡ replicate (length outs.old) None }
+/// How many registers are used at most, with that of this task.
+fn used_with(used: usize, task: usize) -> usize
+    requires used { used ≤ 1024 }
+    requires task { task < 1024 }
+    ensures kept { used ≤ result }
+    ensures task { task < result }
+    ensures most { result ≤ 1024 }
 {
-    outs.fill(None);
+    used.max(task + 1)
+}
+
+/// Empties the first out registers, as many as are used.
+fn empty_outs(outs: &mut [Option<i64>], used: usize)
+    requires { used ≤ length outs.old }
+    ensures { outs.new ≡ replicate used None ++ drop used outs.old }
+{
+    outs[..used].fill(None);
 }
 
 /// Empties the in registers.

@@ -2,11 +2,10 @@ use Rattle.std.proofs.Common.{ap, ◌∙◌, sym, subst, pos}
 use Rattle.node_tables.specs.declared.tables.ModeTable.{ModeTable}
 use Rattle.node_core.specs.contracts.running.Running.{the_view}
 use Rattle.node_core.specs.Registers.{RegistersSeen}
-use Rattle.node_core.specs.Running.{RunningNode, mode_of}
-use Rattle.node_core.specs.Conditions.{MayStart}
+use Rattle.node_core.specs.Running.{mode_of}
 use Rattle.node_core.specs.Fits.{HasRoom, InsFit}
 use Rattle.node_core.proofs.RegisterLemmas.{begun_room}
-use Rattle.node_core.proofs.InputLemmas.{few_inputs, taken_fit, task_known}
+use Rattle.node_core.proofs.InputLemmas.{few_inputs, taken_fit}
 use Rattle.node_core.proofs.running.Running.start.Goals as goal
 
 pub take_inputs-requires-clause-room : goal.take_inputs-requires-clause-room
