@@ -77,9 +77,10 @@ fn perform<S: Sink>(
     tracer.tell(&done, inputs, out)
 }
 
-/// Performs so many Advances without loss.
+/// Performs so many Advances without loss. The inputs of a start come in place of others.
 fn advance<S: Sink>(
     n: u64,
+    inputs: &mut Inputs,
     world: &mut World,
     bodies: &mut Vec<Box<dyn TaskBody>>,
     tracer: &mut Tracer<'_>,
@@ -95,15 +96,16 @@ fn advance<S: Sink>(
     ensures sink { OnlyWrites result (S.faults out.old) (S.faults out.new)
         (S.flushes out.old) (S.flushes out.new) }
 {
-    let mut inputs = Inputs::new();
     for _ in 0..n {
-        perform(Event::Advance(0), &mut inputs, world, bodies, tracer, out)?;
+        perform(Event::Advance(0), inputs, world, bodies, tracer, out)?;
     }
     Ok(())
 }
 
-/// Performs Advances without loss until the next entry is a beacon.
+/// Performs Advances without loss until the next entry is a beacon. The inputs of a start come in
+/// place of others.
 fn advance_to_beacon<S: Sink>(
+    inputs: &mut Inputs,
     world: &mut World,
     bodies: &mut Vec<Box<dyn TaskBody>>,
     tracer: &mut Tracer<'_>,
@@ -119,19 +121,19 @@ fn advance_to_beacon<S: Sink>(
     ensures sink { OnlyWrites result (S.faults out.old) (S.faults out.new)
         (S.flushes out.old) (S.flushes out.new) }
 {
-    let mut inputs = Inputs::new();
     for _ in 0..u64::MAX {
         if world.beacon_next() {
             return Ok(());
         }
-        perform(Event::Advance(0), &mut inputs, world, bodies, tracer, out)?;
+        perform(Event::Advance(0), inputs, world, bodies, tracer, out)?;
     }
     Ok(())
 }
 
-/// Performs the events of a line.
+/// Performs the events of a line. The inputs of a start come in place of others.
 fn perform_line<S: Sink>(
     line: Line,
+    inputs: &mut Inputs,
     world: &mut World,
     bodies: &mut Vec<Box<dyn TaskBody>>,
     tracer: &mut Tracer<'_>,
@@ -150,32 +152,11 @@ fn perform_line<S: Sink>(
         (S.flushes out.old) (S.flushes out.new) }
 {
     match line {
-        Line::Go(n) => advance(n, world, bodies, tracer, out),
-        Line::UntilBeacon => advance_to_beacon(world, bodies, tracer, out),
-        Line::Lose(nodes) => perform(
-            Event::Advance(nodes),
-            &mut Inputs::new(),
-            world,
-            bodies,
-            tracer,
-            out,
-        ),
-        Line::Request(mode) => perform(
-            Event::Request(mode),
-            &mut Inputs::new(),
-            world,
-            bodies,
-            tracer,
-            out,
-        ),
-        Line::Restart(node) => perform(
-            Event::Restart(node),
-            &mut Inputs::new(),
-            world,
-            bodies,
-            tracer,
-            out,
-        ),
+        Line::Go(n) => advance(n, inputs, world, bodies, tracer, out),
+        Line::UntilBeacon => advance_to_beacon(inputs, world, bodies, tracer, out),
+        Line::Lose(nodes) => perform(Event::Advance(nodes), inputs, world, bodies, tracer, out),
+        Line::Request(mode) => perform(Event::Request(mode), inputs, world, bodies, tracer, out),
+        Line::Restart(node) => perform(Event::Restart(node), inputs, world, bodies, tracer, out),
     }
 }
 
@@ -215,8 +196,9 @@ pub fn replay<S: Sink>(
     ensures same_flushes { S.flushes out.new ≡ S.flushes out.old }
 {
     let mut tracer = Tracer::make(alloc, set)?;
+    let mut inputs = Inputs::new();
     for line in lines {
-        perform_line(*line, world, bodies, &mut tracer, out)?;
+        perform_line(*line, &mut inputs, world, bodies, &mut tracer, out)?;
     }
     tracer.done(out)?;
     Ok(tracer.counts())
