@@ -1,0 +1,4 @@
+pub mod Canvas
+pub mod Elements
+pub mod Drawing
+pub mod Within
