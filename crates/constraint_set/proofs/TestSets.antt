@@ -3,7 +3,7 @@ use Rattle.std.proofs.Common.{◌≡◌, ℕ, ◌+◌, ◌*◌, ◌/◌, ◌<◌
 use Rattle.std.proofs.lemmas.Int.{ints}
 use Rattle.app_graph.specs.declared.mode_set.ModeSet.{ModeSet}
 use Rattle.app_graph.specs.Validation.{KeepsRules}
-use Rattle.sched_model.specs.PlainMode.{PlainMode, plain_at, message_at, hyper, instance_count, most_rounds}
+use Rattle.sched_model.specs.PlainMode.{PlainMode, plain_at, message_at, hyper, copy_count, most_rounds}
 use Rattle.sched_model.specs.ConstraintProblem.{Decision, serve, order, decisions, alternatives, alternatives_of}
 use Rattle.sched_model.specs.OpenPrefix.{Chosen}
 use Rattle.sched_model.specs.TestModes.{loop_with}
@@ -22,12 +22,12 @@ five_rounds = refl
 pub some_rounds : (set : ModeSet) (r : ℕ) → set ≡ loop_with (pos 100) → r ≤ 5 → r ≤ most_rounds (plain_at set 0)
 some_rounds set r e l = subst (λ (x : ModeSet). r ≤ most_rounds (plain_at x 0)) (sym e) (omega (arith, l, five_rounds))
 
-one_instance : 0 < instance_count (plain_at (loop_with (pos 100)) 0) (message_at (plain_at (loop_with (pos 100)) 0) 0)
+one_copy : 0 < copy_count (plain_at (loop_with (pos 100)) 0) (message_at (plain_at (loop_with (pos 100)) 0) 0)
 unfolding hyper
-one_instance = lit< tt
+one_copy = lit< tt
 
 first_decision : get_or (decisions (plain_at (loop_with (pos 100)) 0)) 0 (order 0 0) ≡ serve 0 0
-first_decision = decision_at (plain_at (loop_with (pos 100)) 0) 0 0 (order 0 0) (lit< tt) one_instance
+first_decision = decision_at (plain_at (loop_with (pos 100)) 0) 0 0 (order 0 0) (lit< tt) one_copy
 
 may_two : (m : PlainMode) (d : Decision) → d ≡ serve 0 0 → MayChoose m 1 d (pos 2)
 may_two m d e =
