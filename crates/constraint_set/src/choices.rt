@@ -134,9 +134,7 @@ pub(crate) fn alternatives_at(
         (decision_of choice) prefix.now }
 {
     match choice {
-        Choice::Serve(message, copy) => serve_alternatives(
-            frame, rounds, message, copy, prefix,
-        ),
+        Choice::Serve(message, copy) => serve_alternatives(frame, rounds, message, copy, prefix),
         Choice::Order(first, second) => pair_alternatives(frame, first, second),
     }
 }

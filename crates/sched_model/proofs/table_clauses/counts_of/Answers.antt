@@ -29,8 +29,8 @@ loop-place-preserved c =
           (so_serves m s i (c.args.base + x) n (c.slot_of-slot.ensures.found low)) (λ k l e. c.slot_of-slot.ensures.only k l (serves_so m s i (c.args.base + k) n (omega (arith, c.loop-place-test.true, c.round_count-place-end.ensures)) e)) in
           record { long = ap (λ (l : List ℕ). length l) w.counts-is ∙ length-set c.loop-place.counts x _ ∙ old.long; are = subst (λ (l : List ℕ). Counts m s i c.args.base c.args.count (n + 1) l) (sym w.counts-is) more }
       | else-slot-count w ↦ record {
-          long = ap (λ (l : List ℕ). length l) w.counts-is ∙ old.long;
-          are = subst (λ (l : List ℕ). Counts m s i c.args.base c.args.count (n + 1) l) (sym w.counts-is) (no_more m s i c.args.base c.args.count n c.loop-place.counts old.are
-              (λ k l e. let at = c.slot_of-slot.ensures.only k l (serves_so m s i (c.args.base + k) n (omega (arith, c.loop-place-test.true, c.round_count-place-end.ensures)) e) in omega (arith, at, l, w.if-slot-count.false)));
-        }
+        long = ap (λ (l : List ℕ). length l) w.counts-is ∙ old.long;
+        are = subst (λ (l : List ℕ). Counts m s i c.args.base c.args.count (n + 1) l) (sym w.counts-is) (no_more m s i c.args.base c.args.count n c.loop-place.counts old.are
+            (λ k l e. let at = c.slot_of-slot.ensures.only k l (serves_so m s i (c.args.base + k) n (omega (arith, c.loop-place-test.true, c.round_count-place-end.ensures)) e) in omega (arith, at, l, w.if-slot-count.false)));
+      }
     ]
