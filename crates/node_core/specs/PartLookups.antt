@@ -6,6 +6,7 @@ use Rattle.sched_model.specs.Rounds.{round_start}
 use Rattle.runtime_model.specs.NodeTables.{is_own, numbers}
 use Rattle.runtime_model.specs.Packets.{takes_on}
 use Rattle.runtime_model.specs.Placement.{release}
+use Rattle.runtime_model.specs.Copies.{copy_at}
 use Rattle.runtime_model.specs.Plans.{Plan, first_round, node_of, offset, place_from, sender_of}
 use Rattle.node_tables.specs.declared.tables.NodeTable.{NodeTable}
 use Rattle.node_tables.specs.declared.tables.OwnTask.{OwnTask}
@@ -40,7 +41,7 @@ message_in_slot p j k = place_from 0 p.mode.messages (slice_index_or (table_at p
 
 -- that place as a node keeps it: slots are numbered from 1
 abbrev pub kept_slot : Plan → ℕ → ℕ → OwnSlot
-kept_slot p j k = record { slot = suc k; message = slice_index_or (table_at p j) k 0; release = release p j (message_in_slot p j k) }
+kept_slot p j k = record { slot = suc k; message = slice_index_or (table_at p j) k 0; release = release p j (message_in_slot p j k); copy = copy_at p j (message_in_slot p j k) }
 
 -- What node v finds in its table t of these plans, for mode m, whose plan is p
 pub record PartLooksUp (plans : List Plan) (v m : ℕ) (p : Plan) (t : NodeTable) : Type 0 where

@@ -1,6 +1,7 @@
 -- What a node's registers hold, and what the calls do to them
-use Rattle.std.specs.Prelude.{ℕ, List, [], length, map, fold, replicate, slice_index_or, slice_set, Option, Some, None, nat_eq, cond, ℤ}
-use Rattle.std.specs.List.{flat_map}
+use Rattle.std.specs.Prelude.{ℕ, Bool, List, [], length, map, fold, replicate, slice_index_or, slice_set, Option, Some, None, is_some, nat_eq, cond, ℤ}
+use Rattle.std.specs.List.{flat_map, list_all}
+use Rattle.sched_model.specs.Numbers.{below}
 use Rattle.runtime_model.specs.Inputs.{given}
 use Rattle.runtime_model.specs.Packets.{all_present}
 use Rattle.node_tables.specs.declared.tables.OwnMessage.{OwnMessage}
@@ -49,6 +50,10 @@ filled m values g = record g { ins = slice_set g.ins m.number (replicate (length
 -- the in register of the consumer of a message at a place
 abbrev pub register_at : List InRow → OwnMessage → ℕ → Option (List ℤ)
 register_at ins m c = slice_index_or (row_of ins m.number) c None
+
+-- the in registers of all consumers of a message on the node are full
+abbrev pub all_full : List InRow → OwnMessage → Bool
+all_full ins m = list_all (λ c. is_some (register_at ins m c)) (below (length m.consumers))
 
 -- the in register of a task for a message, where it consumes the message
 abbrev pub register_in : List InRow → OwnMessage → Option ℕ → Option (List ℤ)

@@ -11,7 +11,7 @@ use Rattle.node_tables.specs.declared.tables.OwnMessage.{OwnMessage}
 use Rattle.node_tables.specs.declared.tables.OwnSlot.{OwnSlot}
 use Rattle.node_core.specs.declared.packet.Packet.{Packet}
 use Rattle.node_core.specs.Lookup.{mode_at, round_at, mode_of_round, own_slot, own_message, own_task, sends, is_taken}
-use Rattle.node_core.specs.Registers.{RegistersSeen, no_registers, values_of, filled, inputs_of, begun, value_at_end, ended_with}
+use Rattle.node_core.specs.Registers.{RegistersSeen, no_registers, values_of, filled, all_full, inputs_of, begun, value_at_end, ended_with}
 use Rattle.node_core.specs.Running.{RunningNode, mode_of, round_of}
 
 -- ---- beacons
@@ -113,15 +113,29 @@ sent_in n (Some s) = cond (slot_placed n s) (packet_from n.registers (own_messag
 abbrev pub sent : RunningNode → ℕ → Option Packet
 sent n slot = sent_in n (own_slot (round_of n) slot)
 
--- a message is taken where a task of the node consumes it
-abbrev pub is_received : Option OwnMessage → Bool
-is_received None = false
-is_received (Some m) = is_taken m
+-- a copy of a message is taken where a task of the node consumes the message,
+-- unless it is not the first one and the in registers of all its consumers are full
+abbrev pub takes_copy : RegistersSeen → ℕ → OwnMessage → Bool
+takes_copy g copy m = is_taken m && not (nat_lt 1 copy && all_full g.ins m)
 
--- the registers after a packet of a message
-abbrev pub registers_with : Option OwnMessage → Packet → RegistersSeen → RegistersSeen
-registers_with None packet g = g
-registers_with (Some m) packet g = cond (is_taken m) (filled m packet.values g) g
+-- this copy of a message, if it is one of the node's, is taken
+abbrev pub is_received : RegistersSeen → ℕ → Option OwnMessage → Bool
+is_received g copy None = false
+is_received g copy (Some m) = takes_copy g copy m
+
+-- the registers after a packet with this copy of a message
+abbrev pub registers_with : ℕ → Option OwnMessage → Packet → RegistersSeen → RegistersSeen
+registers_with copy None packet g = g
+registers_with copy (Some m) packet g = cond (takes_copy g copy m) (filled m packet.values g) g
+
+-- the copy that an own slot carries
+abbrev pub copy_in : Option OwnSlot → ℕ
+copy_in None = 0
+copy_in (Some s) = s.copy
+
+-- the copy that the slot with this number in the node's round carries
+abbrev pub copy_of_slot : RunningNode → ℕ → ℕ
+copy_of_slot n slot = copy_in (own_slot (round_of n) slot)
 
 -- the own message of the slot with this number in the node's round
 abbrev pub message_of_slot : RunningNode → ℕ → Option OwnMessage
@@ -129,11 +143,12 @@ message_of_slot n slot = message_in (mode_of n) (own_slot (round_of n) slot)
 
 -- whether the node takes the packet of the slot
 abbrev pub takes : RunningNode → ℕ → Bool
-takes n slot = is_received (message_of_slot n slot)
+takes n slot = is_received n.registers (copy_of_slot n slot) (message_of_slot n slot)
 
 -- the node after the packet of the slot
 abbrev pub received : RunningNode → ℕ → Packet → RunningNode
-received n slot packet = record n { registers = registers_with (message_of_slot n slot) packet n.registers }
+received n slot packet =
+    record n { registers = registers_with (copy_of_slot n slot) (message_of_slot n slot) packet n.registers }
 
 -- ---- runs
 

@@ -20,7 +20,7 @@ abbrev pub plain_message : OwnMessage → PlainOwnMessage
 plain_message m = record { number = m.number; role = m.role; producers = m.producers; consumers = m.consumers }
 
 abbrev pub plain_slot : OwnSlot → PlainOwnSlot
-plain_slot s = record { slot = s.slot; message = s.message; release = s.release }
+plain_slot s = record { slot = s.slot; message = s.message; release = s.release; copy = s.copy }
 
 abbrev pub plain_round : OwnRound → PlainOwnRound
 plain_round r = record { start = natural r.start; slots = map plain_slot r.slots }
@@ -41,7 +41,7 @@ abbrev pub typed_message : PlainOwnMessage → OwnMessage
 typed_message m = record { number = m.number; role = m.role; producers = m.producers; consumers = m.consumers }
 
 abbrev pub typed_slot : PlainOwnSlot → OwnSlot
-typed_slot s = record { slot = s.slot; message = s.message; release = s.release }
+typed_slot s = record { slot = s.slot; message = s.message; release = s.release; copy = s.copy }
 
 abbrev pub typed_round : PlainOwnRound → OwnRound
 typed_round r = record { start = pos r.start; slots = map typed_slot r.slots }

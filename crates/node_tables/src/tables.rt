@@ -65,4 +65,6 @@ pub struct OwnSlot {
     pub message: u32,
     /// The release of the instance that it carries, in ticks from the hyperperiod's start.
     pub release: Time,
+    /// Which copy of the instance it carries, from 1.
+    pub copy: u8,
 }

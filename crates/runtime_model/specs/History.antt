@@ -24,7 +24,8 @@ abbrev pub sent_or_not : Plan → ℕ → Spot → ℕ → ℕ → List Step →
 sent_or_not p nodes s j i ds None lost = silent i
 sent_or_not p nodes s j i ds (Some xs) lost =
     let v = sender_of p i in
-    sent v i (window_at p s.turn j i) xs (filter (takes p lost v i ds) (below nodes))
+    let k = window_at p s.turn j i in
+    sent v i k xs (filter (takes p s.stay lost v i k ds) (below nodes))
 
 -- an end of task a on node v, where run k with this value ends or none
 abbrev pub finished_or_not : ℕ → ℕ → ℕ → Option ℤ → Outcome

@@ -1,14 +1,16 @@
 -- Laws of the runtime, over every list of events
-use Rattle.std.specs.Prelude.{◌≡◌, ℕ, suc, ◌+◌, ◌*◌, ◌<◌, ◌≤◌, ◌↔◌, ◌⊎◌, true, false, List, [], ◌∷◌, ◌++◌, length, take, Contains, Option, Some, None, ℤ}
+use Rattle.std.specs.Prelude.{◌≡◌, ℕ, suc, ◌+◌, ◌*◌, ◌<◌, ◌≤◌, ◌↔◌, ◌⊎◌, true, false, List, [], ◌∷◌, ◌++◌, length, take, Contains, Option, Some, None, ℤ, pos, ◌+ℤ◌, ◌-ℤ◌, ◌*ℤ◌, ◌≤ℤ◌}
 use Rattle.app_graph.specs.declared.mode_set.ModeSet.{ModeSet}
 use Rattle.app_graph.specs.Validation.{KeepsRules}
 use Rattle.sched_model.specs.declared.schedule.Schedule.{Schedule}
 use Rattle.sched_model.specs.PlainMode.{hyper, task_at, message_at}
+use Rattle.sched_model.specs.Rounds.{round_start, opens}
 use Rattle.runtime_model.specs.Timeline.{steady, drains, Hyperperiod, timeline_of}
 use Rattle.runtime_model.specs.HostCalls.{HostCall, AllMay, call_state, host_after, after_call}
 use Rattle.runtime_model.specs.Plans.{Plan, RightPlan, RightPlans, AreSchedules, FewRounds, Carried, node_of, offset}
 use Rattle.runtime_model.specs.Entries.{Entry, slot, task_ends, task_starts}
 use Rattle.runtime_model.specs.Placement.{release, IsRelease, placed, own_slot, own_start, window_at, run_at}
+use Rattle.runtime_model.specs.Copies.{copy_at}
 use Rattle.runtime_model.specs.Outcomes.{PlainEvent, advance, request, restart, Outcome, Step, is_beacon, took, sent, started, finished}
 use Rattle.runtime_model.specs.LookingBack.{LookedBack, synced, settled, coasts, recall, last_beacon}
 use Rattle.runtime_model.specs.System.{System, plan_at, system_of}
@@ -45,6 +47,38 @@ InputsHold = (y : System) (es : List PlainEvent) (b i : ℕ) →
     RightPlan y.nodes p → Contains (message_at p.mode i).to b → i < length p.mode.messages → (entry_at y s).action ≡ task_starts b →
     placed s.hyper.opening s.hyper.phase (own_start p (entry_at y s).tick b) ≡ true →
     recall (node_of p b) s.stay (took (node_of p b) i (run_at p s.turn (entry_at y s).tick b)) ds ≡ values_of (in_register p s.stay b i ds)
+
+-- at a placed slot the in registers of the message's consumers have what was taken in its window: no other one filled them
+abbrev pub InputsHoldAtSlots : Type 0
+InputsHoldAtSlots = (y : System) (es : List PlainEvent) (j i b : ℕ) →
+    let ds = history y es in
+    let s = spot_next y ds in
+    let p = plan_at y s.hyper.mode in
+    RightPlan y.nodes p → Carried p j i → Contains (message_at p.mode i).to b → (entry_at y s).action ≡ slot j i →
+    placed s.hyper.opening s.hyper.phase (own_slot p j i) ≡ true →
+    recall (node_of p b) s.stay (took (node_of p b) i (window_at p s.turn j i)) ds ≡ values_of (in_register p s.stay b i ds)
+
+-- before a slot with the first copy of a window no node has taken anything of that window
+abbrev pub FirstCopiesAreFirst : Type 0
+FirstCopiesAreFirst = (y : System) (es : List PlainEvent) (j i v : ℕ) →
+    let ds = history y es in
+    let s = spot_next y ds in
+    let p = plan_at y s.hyper.mode in
+    RightPlan y.nodes p → Carried p j i → (entry_at y s).action ≡ slot j i →
+    placed s.hyper.opening s.hyper.phase (own_slot p j i) ≡ true → copy_at p j i ≡ 1 →
+    recall v s.stay (took v i (window_at p s.turn j i)) ds ≡ None
+
+-- a slot carries one of the copies of its message, counted from 1
+abbrev pub CopiesAreNumbered : Type 0
+CopiesAreNumbered = (nodes : ℕ) (p : Plan) (j i : ℕ) → RightPlan nodes p → Carried p j i →
+    (1 ≤ copy_at p j i) × (copy_at p j i ≤ (message_at p.mode i).copies)
+
+-- a round that starts in the window of a slot, at the slot's own start or before it, is of the slot's hyperperiod or of the one before:
+-- in no other one are copies to be counted
+abbrev pub CopiesAreNear : Type 0
+CopiesAreNear = (nodes : ℕ) (p : Plan) (j i l : ℕ) (n : ℤ) → RightPlan nodes p → Carried p j i → l < length p.schedule.starts →
+    let at = round_start p.schedule l +ℤ n *ℤ pos (hyper p.mode) in
+    (opens p.schedule i +ℤ release p j i) ≤ℤ at → at ≤ℤ round_start p.schedule j → (n ≡ pos 0 -ℤ pos 1) ⊎ (n ≡ pos 0)
 
 -- there is a mode, and each one has a right plan
 abbrev pub PlansAreRight : System → Type 0

@@ -3,6 +3,7 @@ pub mod HostCalls
 pub mod Plans
 pub mod Entries
 pub mod Placement
+pub mod Copies
 pub mod Outcomes
 pub mod LookingBack
 pub mod System

@@ -5,6 +5,7 @@ use Rattle.sched_model.specs.PlainMode.{hyper, task_at, message_at}
 use Rattle.sched_model.specs.Rounds.{round_start}
 use Rattle.runtime_model.specs.Plans.{Plan, offset, node_of, place_from, sender_of}
 use Rattle.runtime_model.specs.Placement.{release}
+use Rattle.runtime_model.specs.Copies.{copy_at}
 use Rattle.runtime_model.specs.Packets.{takes_on}
 
 -- a task of the node
@@ -21,11 +22,12 @@ pub record PlainOwnMessage : Type 0 where
   pub producers : List ℕ
   pub consumers : List ℕ
 
--- a slot of a round, from 1, with an own message and its release
+-- a slot of a round, from 1, with an own message, its release and which copy it carries
 pub record PlainOwnSlot : Type 0 where
   pub slot : ℕ
   pub message : ℕ
   pub release : ℤ
+  pub copy : ℕ
 
 pub record PlainOwnRound : Type 0 where
   pub start : ℕ
@@ -73,7 +75,7 @@ abbrev pub own_slots : Plan → ℕ → ℕ → ℕ → List ℕ → List PlainO
 own_slots p v j s [] = []
 own_slots p v j s (number ∷ table) =
     let i = place_from 0 p.mode.messages number in
-    cond (is_own p v i) (record { slot = s; message = number; release = release p j i } ∷ []) [] ++ own_slots p v j (suc s) table
+    cond (is_own p v i) (record { slot = s; message = number; release = release p j i; copy = copy_at p j i } ∷ []) [] ++ own_slots p v j (suc s) table
 
 -- all rounds, each with its own slots
 abbrev pub own_rounds : Plan → ℕ → List PlainOwnRound

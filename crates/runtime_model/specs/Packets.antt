@@ -1,10 +1,10 @@
 -- What is held, sent and taken
-use Rattle.std.specs.Prelude.{ℕ, ◌/◌, ◌%◌, ◌^◌, Bool, cond, not, ◌&&◌, ◌||◌, nat_eq, List, [], ◌∷◌, map, Option, Some, None, ℤ}
+use Rattle.std.specs.Prelude.{ℕ, ◌/◌, ◌%◌, ◌^◌, Bool, cond, not, ◌&&◌, ◌||◌, nat_eq, List, [], ◌∷◌, map, Option, Some, None, is_some, ℤ}
 use Rattle.std.specs.List.{list_any}
 use Rattle.sched_model.specs.PlainMode.{message_at}
 use Rattle.runtime_model.specs.Plans.{Plan, node_of, sender_of}
 use Rattle.runtime_model.specs.Placement.{placed, own_slot, window_at}
-use Rattle.runtime_model.specs.Outcomes.{Spot, Step, ended_run}
+use Rattle.runtime_model.specs.Outcomes.{Spot, Step, ended_run, took}
 use Rattle.runtime_model.specs.LookingBack.{synced, recall}
 
 -- node v is in the set of these bits
@@ -39,6 +39,10 @@ abbrev pub packet : Plan → Spot → ℕ → ℕ → List Step → Option (List
 packet p s j i ds =
     cond (placed s.hyper.opening s.hyper.phase (own_slot p j i) && synced (sender_of p i) ds) (held p s.stay i (window_at p s.turn j i) ds) None
 
--- node w takes a packet of message i that node v sends
-abbrev pub takes : Plan → ℕ → ℕ → ℕ → List Step → ℕ → Bool
-takes p lost v i ds w = takes_on p i w && (synced w ds && reached lost v w)
+-- node w took a copy of window k of message i in this stay, since which it is unbroken
+abbrev pub has_copy : ℕ → ℕ → ℕ → List Step → ℕ → Bool
+has_copy stay i k ds w = is_some (recall w stay (took w i k) ds)
+
+-- node w takes a packet of window k of message i that node v sends: no earlier copy of that window is with it
+abbrev pub takes : Plan → ℕ → ℕ → ℕ → ℕ → ℕ → List Step → ℕ → Bool
+takes p stay lost v i k ds w = takes_on p i w && (synced w ds && (reached lost v w && not (has_copy stay i k ds w)))
