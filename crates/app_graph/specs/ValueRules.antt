@@ -83,7 +83,7 @@ on_one_node tasks = list_all (λ t. list_all (λ u. bytes_eq t.node u.node) task
 
 -- the most copies of a message
 abbrev pub most_copies : ℕ
-most_copies = 1
+most_copies = 4
 
 -- a message: its name is new in the mode; it has 1 to 4 producers, on one node, and 1 to 16 consumers; its copies are in range;
 -- the mode has at most 64 messages so far

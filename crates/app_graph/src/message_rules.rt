@@ -16,7 +16,7 @@ use crate::raw::{RawApp, RawMessage, RawTask};
 use std::alloc::Global;
 
 /// The most copies of a message.
-const MOST_COPIES: i64 = 1;
+const MOST_COPIES: i64 = 4;
 
 /// Whether the applications have fewer than 64 messages, `more` others counted too.
 fn has_room(apps: &[RawApp], more: usize) -> bool

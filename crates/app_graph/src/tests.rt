@@ -593,6 +593,9 @@ fn copies_out_of_range(rt: HostRuntime) -> Result<(), Fail> {
             )?
         );
     }
+    for copies in [1, 4] {
+        assert!(rt; gives(rt.alloc(), &Sample { copies, ..b }, "ok", "")?);
+    }
     assert!(rt;
         gives(
             rt.alloc(),
