@@ -1,6 +1,6 @@
 -- Where nothing is lost and nobody restarts, the packet of each window is sent and taken
 use Rattle.std.proofs.Common.{◌≡◌, ℕ, zero, suc, ◌+◌, ◌-◌, ◌*◌, ◌/◌, ◌%◌, ◌<◌, ◌≤◌, Bool, true, false, cond, not, ◌&&◌, ◌||◌, List, [], ◌∷◌, length, get_or, map, Contains, refl, sym, ◌∙◌, ap, subst, arith, ℤ, pos, negsuc, ◌+ℤ◌, ◌≤ℤ◌, ◌<ℤ◌}
-use Rattle.std.specs.Prelude.{nat_eq, Option, Some, None}
+use Rattle.std.specs.Prelude.{nat_eq, Option, Some, None, is_some}
 use Rattle.std.specs.List.{filter}
 use Rattle.std.proofs.lemmas.Int.{ints}
 use Rattle.std.proofs.lemmas.Bool.{cond-true, cond-false, eq-eqb}
@@ -15,9 +15,9 @@ use Rattle.runtime_model.specs.Plans.{Plan, RightPlan, Carried, node_of, offset,
 use Rattle.runtime_model.specs.Entries.{Entry, Action, slot, task_ends, task_starts}
 use Rattle.runtime_model.specs.Placement.{placed, release, not_negative, own_slot, window_at}
 use Rattle.runtime_model.specs.Outcomes.{PlainEvent, advance, Step, is_beacon, took, ended_run}
-use Rattle.runtime_model.specs.LookingBack.{synced, recall, last_beacon}
+use Rattle.runtime_model.specs.LookingBack.{synced, recall, or_else, last_beacon}
 use Rattle.runtime_model.specs.System.{System, plan_at}
-use Rattle.runtime_model.specs.Packets.{reached, in_set, both, all_present, takes_on, held, packet, takes}
+use Rattle.runtime_model.specs.Packets.{reached, in_set, both, all_present, takes_on, held, packet, has_copy, takes}
 use Rattle.runtime_model.specs.History.{history, step_of, spot_next, entries, entry_at, sent_or_not}
 use Rattle.runtime_model.specs.Laws.{RequestsFit, Lossless, NothingIsMissing}
 use Rattle.runtime_model.proofs.Cycles.{entry_right, has_slot}
@@ -61,11 +61,11 @@ slot_placed opening phase (suc n) h x r op rel e =
     by_drain true own f = ap not (f refl)
     by_drain false own f = refl
 
--- a node with a consumer takes the packet
-takes_it : (p : Plan) (i b v w : ℕ) (ds : List Step) → Contains (message_at p.mode i).to b → node_of p b ≡ w → synced w ds ≡ true → takes p 0 v i ds w ≡ true
-takes_it p i b v w ds c on up =
-    both_true (takes_on p i w) (synced w ds && reached 0 v w) (passes (λ b. nat_eq (node_of p b) w) (message_at p.mode i).to b c.0 c.1 (eq-eqb (node_of p (get_or (message_at p.mode i).to c.0 b)) w (ap (node_of p) c.2 ∙ on)))
-    (both_true (synced w ds) (reached 0 v w) up (either (nat_eq w v) (in_set 0 w) (no_bit w)))
+-- a node with a consumer takes the packet, where it has no earlier copy
+takes_it : (p : Plan) (st i k b v w : ℕ) (ds : List Step) → Contains (message_at p.mode i).to b → node_of p b ≡ w → synced w ds ≡ true → recall w st (took w i k) ds ≡ None → takes p st 0 v i k ds w ≡ true
+takes_it p st i k b v w ds c on up new =
+    both_true (takes_on p i w) (synced w ds && (reached 0 v w && not (has_copy st i k ds w))) (passes (λ b. nat_eq (node_of p b) w) (message_at p.mode i).to b c.0 c.1 (eq-eqb (node_of p (get_or (message_at p.mode i).to c.0 b)) w (ap (node_of p) c.2 ∙ on)))
+    (both_true (synced w ds) (reached 0 v w && not (has_copy st i k ds w)) up (both_true (reached 0 v w) (not (has_copy st i k ds w)) (either (nat_eq w v) (in_set 0 w) (no_bit w)) (ap (λ (o : Option (List ℤ)). not (is_some o)) new)))
   where
     either : (a b : Bool) → b ≡ false → (a || not b) ≡ true
     either true b e = refl
@@ -160,9 +160,9 @@ module _ (y : System) (right : AllRight y) (md st i k b : ℕ) (ok : RightPlan y
       earlier : (x z n : ℕ) → x ≡ z → z < n → x < n
       earlier x z n e l = omega (arith, e, l)
 
-  -- the slot's packet is sent, and the consumer's node takes it
+  -- the slot's packet is sent, and the consumer's node takes it, unless it has an earlier copy
   slot_hit : (w : SlotPlace) (es : List PlainEvent) (lost : ℕ) → There y right md st w.turn w.index (k * per) es lost →
-      ((xs : List ℤ) × (took (node_of p b) i k (step_of y (advance lost) (history y es)).out ≡ Some xs)) × ((g : Step) × (last_beacon (history y (advance lost ∷ es)) ≡ Some g))
+      ((xs : List ℤ) × (or_else (took (node_of p b) i k (step_of y (advance lost) (history y es)).out) (recall (node_of p b) st (took (node_of p b) i k) (history y es)) ≡ Some xs)) × ((g : Step) × (last_beacon (history y (advance lost ∷ es)) ≡ Some g))
   slot_hit w es lost t =
       let ds = history y es in
       let s = spot_next y ds in
@@ -184,14 +184,22 @@ module _ (y : System) (right : AllRight y) (md st i k b : ℕ) (ok : RightPlan y
       let sends : packet p s w.round i ds ≡ Some here.0 =
       cond-true (placed s.hyper.opening s.hyper.phase (own_slot p w.round i) && synced v ds) (held p s.stay i (window_at p s.turn w.round i) ds) None (both_true (placed s.hyper.opening s.hyper.phase (own_slot p w.round i)) (synced v ds) pl up) ∙ has_all in
       let out' = out ∙ ap (λ (o : Option (List ℤ)). sent_or_not p y.nodes s w.round i ds o lost) sends in
-      let ts = filter (takes p lost v i ds) (below y.nodes) in
+      let ts = filter (takes p s.stay lost v i (window_at p s.turn w.round i) ds) (below y.nodes) in
       let taker = all_synced y es c t.1.1 fit.on_node heard.0 heard.1 in
-      let taken : has ts c ≡ true = ap (λ z. has (filter (takes p z v i ds) (below y.nodes)) c) t.1.0 ∙
-      contains_has (filter (takes p 0 v i ds) (below y.nodes)) c (kept (takes p 0 v i ds) y.nodes c fit.on_node (takes_it p i b v c ds to refl taker)) in
-      let says = ap (took c i k) out' ∙ cond-true (nat_eq i i && (nat_eq (window_at p s.turn w.round i) k && has ts c)) (Some here.0) None
-      (both_true (nat_eq i i) (nat_eq (window_at p s.turn w.round i) k && has ts c) (eq-eqb i i refl) (both_true (nat_eq (window_at p s.turn w.round i) k) (has ts c) (eq-eqb (window_at p s.turn w.round i) k window) taken)) in
-      ((here.0, says), still_some (is_beacon d.out) d (last_beacon ds) heard)
+      let ours : filter (takes p s.stay lost v i (window_at p s.turn w.round i) ds) (below y.nodes) ≡ filter (takes p st 0 v i k ds) (below y.nodes) =
+      ap (λ z. filter (takes p z lost v i (window_at p s.turn w.round i) ds) (below y.nodes)) t.2 ∙ ap (λ z. filter (takes p st z v i (window_at p s.turn w.round i) ds) (below y.nodes)) t.1.0
+      ∙ ap (λ z. filter (takes p st 0 v i z ds) (below y.nodes)) window in
+      let taken = λ (new : recall c st (took c i k) ds ≡ None). ap (λ (xs : List ℕ). has xs c) ours ∙
+      contains_has (filter (takes p st 0 v i k ds) (below y.nodes)) c (kept (takes p st 0 v i k ds) y.nodes c fit.on_node (takes_it p st i k b v c ds to refl taker new)) in
+      let says = λ (new : recall c st (took c i k) ds ≡ None). ap (took c i k) out' ∙ cond-true (nat_eq i i && (nat_eq (window_at p s.turn w.round i) k && has ts c)) (Some here.0) None
+      (both_true (nat_eq i i) (nat_eq (window_at p s.turn w.round i) k && has ts c) (eq-eqb i i refl) (both_true (nat_eq (window_at p s.turn w.round i) k) (has ts c) (eq-eqb (window_at p s.turn w.round i) k window) (taken new))) in
+      (now_or_before (took c i k d.out) (recall c st (took c i k) ds) here.0 says, still_some (is_beacon d.out) d (last_beacon ds) heard)
     where
+      now_or_before : (x w : Option (List ℤ)) (z : List ℤ) → (w ≡ None → x ≡ Some z) → (xs : List ℤ) × (or_else x w ≡ Some xs)
+      now_or_before (Some x) w z f = (x, refl)
+      now_or_before None (Some x) z f = (x, refl)
+      now_or_before None None z f = (z, f refl)
+
       sender_on_node : (a : ℕ) × Contains (message_at p.mode i).from a → sender_of p i < y.nodes
       sender_on_node a =
           let first = first_of_some (message_at p.mode i).from a.0 a.1 in

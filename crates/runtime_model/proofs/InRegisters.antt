@@ -13,7 +13,7 @@ use Rattle.runtime_model.specs.Inputs.{inputs}
 use Rattle.runtime_model.specs.Laws.{InputsHold}
 use Rattle.runtime_model.specs.LookingBack.{recall, or_else, runs, synced}
 use Rattle.runtime_model.specs.Outcomes.{PlainEvent, advance, request, restart, Spot, Step, Outcome, beaconed, sent, silent, started, off, finished, void, requested, restarted, is_beacon, restarts, begun_run, took}
-use Rattle.runtime_model.specs.Packets.{packet, held, takes_on, reached}
+use Rattle.runtime_model.specs.Packets.{packet, held, takes}
 use Rattle.runtime_model.specs.Placement.{placed, own_slot, own_start, window_at, run_at, ends_run, ending_run_at}
 use Rattle.runtime_model.specs.Plans.{Plan, offset, node_of, RightPlan, sender_of}
 use Rattle.runtime_model.specs.Registers.{last_in, flat, values_of}
@@ -48,7 +48,7 @@ sent_is y p s lost ds u (slot j m) v b i l xs e = by_packet (packet p s j m ds) 
         (k : ℕ) × (slot j m ≡ slot k i) × (placed s.hyper.opening s.hyper.phase (own_slot p k i) ≡ true) × (l ≡ window_at p s.turn k i)
     by_packet None h e = absurd (grind (arith, e))
     by_packet (Some ys) h e =
-        let t = Rattle.std.specs.List.filter (λ w. takes_on p m w && (synced w ds && reached lost (sender_of p m) w)) (below y.nodes) in
+        let t = Rattle.std.specs.List.filter (takes p s.stay lost (sender_of p m) m (window_at p s.turn j m) ds) (below y.nodes) in
         let c = cond_some {X = Option (ℕ × List ℤ)} (nat_eq m i && has t v) (Some (Some (window_at p s.turn j m, ys))) (Some (l, xs)) e in
         let same = eqb-true m i (and_parts (nat_eq m i) (has t v) c.0).0 in
         let g = cond_some (placed s.hyper.opening s.hyper.phase (own_slot p j m) && synced (sender_of p m) ds) (held p s.stay m (window_at p s.turn j m) ds) ys h in
@@ -132,7 +132,7 @@ start_is y p s lost ds u (slot j m) v b i e = absurd (not_sent (packet p s j m d
   where
     not_sent : (o : Option (List ℤ)) → last_in v b i (sent_or_not p y.nodes s j m ds o lost) ≡ Some None → ⊥
     not_sent None e = grind (arith, e)
-    not_sent (Some ys) e = never_full (nat_eq m i && has (Rattle.std.specs.List.filter (λ w. takes_on p m w && (synced w ds && reached lost (sender_of p m) w)) (below y.nodes)) v) (window_at p s.turn j m) ys e
+    not_sent (Some ys) e = never_full (nat_eq m i && has (Rattle.std.specs.List.filter (takes p s.stay lost (sender_of p m) m (window_at p s.turn j m) ds) (below y.nodes)) v) (window_at p s.turn j m) ys e
       where
         never_full : (t : Bool) (k : ℕ) (ys : List ℤ) → cond {A = Option (Option (ℕ × List ℤ))} t (Some (Some (k, ys))) None ≡ Some None → ⊥
         never_full true k ys e = grind (arith, e)

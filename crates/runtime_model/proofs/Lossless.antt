@@ -13,7 +13,7 @@ use Rattle.runtime_model.specs.Plans.{Plan, node_of, offset}
 use Rattle.runtime_model.specs.Entries.{Action, task_ends, beacon, slot, task_starts}
 use Rattle.runtime_model.specs.Placement.{placed, own_start, run_at, ends_run, ending_run_at}
 use Rattle.runtime_model.specs.Outcomes.{PlainEvent, advance, request, restart, Outcome, Spot, Step, is_beacon, hears, restarts, begun_run, ended_run}
-use Rattle.runtime_model.specs.LookingBack.{synced, coasts, runs, recall, last_beacon}
+use Rattle.runtime_model.specs.LookingBack.{synced, coasts, runs, recall, or_else, last_beacon}
 use Rattle.runtime_model.specs.System.{System, plan_at}
 use Rattle.runtime_model.specs.Packets.{in_set, reached, packet}
 use Rattle.runtime_model.specs.Inputs.{inputs}
@@ -25,7 +25,7 @@ use Rattle.runtime_model.proofs.Spots.{Same, Within, Opens, Moves, moves, stands
 use Rattle.runtime_model.proofs.Modes.{AllRight}
 use Rattle.runtime_model.proofs.Beacons.{outcome_is, seen_entry, Seen, Unseen, seen_or_not, some, not_unseen, beacon_place, index_now}
 use Rattle.runtime_model.proofs.TaskTimes.{TaskFits}
-use Rattle.runtime_model.proofs.Registers.{found_again, found_now}
+use Rattle.runtime_model.proofs.Registers.{found_again, or_first}
 use Rattle.runtime_model.proofs.OutRegisters.{Is, H, P, E, BeforeSpot, Before, Released, step_back, same_mode, released_back, time_order, run_is, ending_is, start_place, end_place, is_placed, performed_is, split_before, both_true}
 
 -- ---- everybody hears
@@ -161,9 +161,9 @@ module _ (y : System) (right : AllRight y) (md st : ℕ) where
   Passed n i x es = let l = last_spot (history y es) in
       RequestsFit y es × Lossless es × (l.stay ≡ st) × (l.hyper.mode ≡ md) × Released (plan_at y md) l x × Before (history y es) n i
 
-  -- what the entry at place i of hyperperiod n gives is found, once it is past
+  -- what the entry at place i of hyperperiod n gives, or what was found before it, is found once it is past
   pub visited : {X : Type 0} (n i x v : ℕ) (f : Outcome → Option X) → v < y.nodes → i < length (entries y md) →
-      ((es : List PlainEvent) (lost : ℕ) → There n i x es lost → ((z : X) × (f (step_of y (advance lost) (history y es)).out ≡ Some z)) × ((g : Step) × (last_beacon (history y (advance lost ∷ es)) ≡ Some g))) →
+      ((es : List PlainEvent) (lost : ℕ) → There n i x es lost → ((z : X) × (or_else (f (step_of y (advance lost) (history y es)).out) (recall v st f (history y es)) ≡ Some z)) × ((g : Step) × (last_beacon (history y (advance lost ∷ es)) ≡ Some g))) →
       (es : List PlainEvent) → Passed n i x es → ((z : X) × (recall v st f (history y es) ≡ Some z)) × ((g : Step) × (last_beacon (history y es) ≡ Some g))
   visited n i x v f lv li hit [] w = absurd (⊎_elim (λ (q : n < 0). omega (arith, q)) (λ (q : (n ≡ 0) × (i < 0)). omega (arith, q.1)) w.5)
   visited n i x v f lv li hit (request m ∷ es) w =
@@ -182,7 +182,7 @@ module _ (y : System) (right : AllRight y) (md st : ℕ) where
       (λ (at : (n ≡ s.turn) × (i ≡ s.index)).
       let h = hit es lost (w.0, w.1, w.2, w.3, sym at.0, sym at.1, w.4) in
       let up = synced_runs v (d ∷ ds) (all_synced y (advance lost ∷ es) v w.1 lv h.1.0 h.1.1) in
-      ((h.0.0, found_now (runs v (d ∷ ds) && nat_eq s.stay st) (f d.out) (recall v st f ds) h.0.0 (both_true (runs v (d ∷ ds)) (nat_eq s.stay st) up (eq-eqb s.stay st w.2)) h.0.1), h.1))
+      ((h.0.0, cond-true (runs v (d ∷ ds) && nat_eq s.stay st) (or_else (f d.out) (recall v st f ds)) None (both_true (runs v (d ∷ ds)) (nat_eq s.stay st) up (eq-eqb s.stay st w.2)) ∙ h.0.1), h.1))
       (λ (before : BeforeSpot s n i).
       let same = same_stay y ds s n i mv before in
       let mode = same_mode y ds s mv same ∙ w.3 in
@@ -208,7 +208,7 @@ module _ (y : System) (right : AllRight y) (md st : ℕ) where
 
     -- the start of run k
     start_hit : (es : List PlainEvent) (lost : ℕ) → let w = start_place y md a fit k in There w.0 w.1 (k * P p a) es lost →
-        ((z : ℤ) × (begun_run a k (step_of y (advance lost) (history y es)).out ≡ Some z)) × ((g : Step) × (last_beacon (history y (advance lost ∷ es)) ≡ Some g))
+        ((z : ℤ) × (or_else (begun_run a k (step_of y (advance lost) (history y es)).out) (recall (node_of p a) st (begun_run a k) (history y es)) ≡ Some z)) × ((g : Step) × (last_beacon (history y (advance lost ∷ es)) ≡ Some g))
     start_hit es lost t =
         let w = start_place y md a fit k in
         let ds = history y es in
@@ -229,7 +229,7 @@ module _ (y : System) (right : AllRight y) (md st : ℕ) where
         let ins = inputs p s.stay a k' ds in
         let ans = y.answers ds number ins in
         let says = ap (begun_run a k) out' ∙ cond-true (nat_eq a a && nat_eq k' k) (Some ans) None (both_true (nat_eq a a) (nat_eq k' k) (eq-eqb a a refl) (eq-eqb k' k (run_is y md a fit s.turn u k time))) in
-        ((ans, says), still_some (is_beacon d.out) d (last_beacon ds) heard)
+        ((ans, or_first (begun_run a k d.out) (recall v st (begun_run a k) ds) ans says), still_some (is_beacon d.out) d (last_beacon ds) heard)
 
     -- run k was started, once its start is past
     was_started : (es : List PlainEvent) → let w = start_place y md a fit k in Passed w.0 w.1 (k * P p a) es → ((z : ℤ) × (recall (node_of p a) st (begun_run a k) (history y es) ≡ Some z)) × ((g : Step) × (last_beacon (history y es) ≡ Some g))
@@ -237,7 +237,7 @@ module _ (y : System) (right : AllRight y) (md st : ℕ) where
 
     -- the end of run k
     end_hit : (es : List PlainEvent) (lost : ℕ) → let w = end_place y md a fit k in There w.0 w.1 (k * P p a) es lost →
-        ((z : ℤ) × (ended_run a k (step_of y (advance lost) (history y es)).out ≡ Some z)) × ((g : Step) × (last_beacon (history y (advance lost ∷ es)) ≡ Some g))
+        ((z : ℤ) × (or_else (ended_run a k (step_of y (advance lost) (history y es)).out) (recall (node_of p a) st (ended_run a k) (history y es)) ≡ Some z)) × ((g : Step) × (last_beacon (history y (advance lost ∷ es)) ≡ Some g))
     end_hit es lost t =
         let w = end_place y md a fit k in
         let b = start_place y md a fit k in
@@ -260,7 +260,7 @@ module _ (y : System) (right : AllRight y) (md st : ℕ) where
         cond-true (ends_run p s.turn u a) (recall v s.stay (begun_run a k') ds) None ending.0 ∙ ap (λ z. recall v z (begun_run a k') ds) t.2 ∙ ap (λ z. recall v st (begun_run a z) ds) ending.1 ∙ begun.0.1 in
         let out' = out ∙ ap (finished_or_not v a k') value in
         let says = ap (ended_run a k) out' ∙ cond-true (nat_eq a a && nat_eq k' k) (Some begun.0.0) None (both_true (nat_eq a a) (nat_eq k' k) (eq-eqb a a refl) (eq-eqb k' k ending.1)) in
-        ((begun.0.0, says), still_some (is_beacon d.out) d (last_beacon ds) begun.1)
+        ((begun.0.0, or_first (ended_run a k d.out) (recall v st (ended_run a k) ds) begun.0.0 says), still_some (is_beacon d.out) d (last_beacon ds) begun.1)
 
     -- run k ended, once its end is past
     pub was_ended : (es : List PlainEvent) → let w = end_place y md a fit k in Passed w.0 w.1 (k * P p a) es → ((z : ℤ) × (recall (node_of p a) st (ended_run a k) (history y es) ≡ Some z)) × ((g : Step) × (last_beacon (history y es) ≡ Some g))

@@ -30,7 +30,7 @@ taken_is y p s lost ds u (slot j m) v i k xs e = by_packet (packet p s j m ds) r
     by_packet : (o : Option (List ℤ)) → packet p s j m ds ≡ o → took v i k (sent_or_not p y.nodes s j m ds o lost) ≡ Some xs → held p s.stay i k ds ≡ Some xs
     by_packet None h e = absurd (grind (arith, e))
     by_packet (Some ys) h e =
-        let ts = filter (takes p lost (sender_of p m) m ds) (below y.nodes) in
+        let ts = filter (takes p s.stay lost (sender_of p m) m (window_at p s.turn j m) ds) (below y.nodes) in
         let c = cond_some (nat_eq m i && (nat_eq (window_at p s.turn j m) k && has ts v)) (Some ys) xs e in
         let message = eqb-true m i (and_parts (nat_eq m i) (nat_eq (window_at p s.turn j m) k && has ts v) c.0).0 in
         let window = eqb-true (window_at p s.turn j m) k (and_parts (nat_eq (window_at p s.turn j m) k) (has ts v) (and_parts (nat_eq m i) (nat_eq (window_at p s.turn j m) k && has ts v) c.0).1).0 in

@@ -21,6 +21,10 @@ pub or_cases : {X : Type 0} (x w : Option X) (z : X) → or_else x w ≡ Some z 
 or_cases (Some x) w z e = inl e
 or_cases None w z e = inr (refl, e)
 
+pub or_first : {X : Type 0} (x w : Option X) (z : X) → x ≡ Some z → or_else x w ≡ Some z
+or_first (Some x) w z h = h
+or_first None w z h = absurd (grind (arith, h))
+
 -- a look back that finds something finds something after one more event
 pub found_again : {X : Type 0} (b : Bool) (x w : Option X) → b ≡ true → ((z : X) × (w ≡ Some z)) → (z : X) × (cond b (or_else x w) None ≡ Some z)
 found_again true (Some x) w e h = (x, refl)

@@ -19,6 +19,7 @@ use Rattle.runtime_model.specs.Timeline.{drains}
 use Rattle.sched_model.proofs.Graph.{message_edge}
 use Rattle.runtime_model.proofs.Cycles.{entry_right, RightAt}
 use Rattle.runtime_model.proofs.Spots.{moves, stands}
+use Rattle.runtime_model.proofs.Registers.{or_first}
 use Rattle.runtime_model.proofs.Times.{natural_is, offset_is, task_fits, slot_window, round_from_zero}
 use Rattle.runtime_model.proofs.OutRegisters.{Is, full_is_current, index_fits, start_place}
 
@@ -60,10 +61,6 @@ none_step true (Some x) w z u f g e = absurd (grind (arith, e))
 none_step true None w None u f g e = g e
 none_step true None w (Some z) u f g e = absurd (let q = f refl in grind (arith, q))
 none_step false x w z u f g e = refl
-
-or_first : {Y : Type 0} (z u : Option Y) (s : Y) → z ≡ Some s → or_else z u ≡ Some s
-or_first (Some y) u s h = h
-or_first None u s h = absurd (grind (arith, h))
 
 or_second : {Y : Type 0} (z u : Option Y) (s : Y) → z ≡ None → u ≡ Some s → or_else z u ≡ Some s
 or_second (Some y) u s h g = absurd (grind (arith, h))

@@ -11,7 +11,7 @@ use Rattle.runtime_model.specs.Placement.{release}
 -- the starts, in a hyperperiod that begins at this moment, of the rounds whose tables have the message with this number
 abbrev pub starts_with : Schedule → ℕ → ℤ → List ℤ
 starts_with s number begin =
-    flat_map (λ j. cond (has (slice_index_or s.tables j []) number) (begin +ℤ round_start s j ∷ []) []) (below (length s.starts))
+    flat_map (λ j. cond (has (slice_index_or s.tables j []) number) ((begin +ℤ round_start s j) ∷ []) []) (below (length s.starts))
 
 -- how many of them are from one moment to another
 abbrev pub starts_between : Schedule → ℕ → ℤ → ℤ → ℤ → ℕ

@@ -200,7 +200,7 @@ NodePart = part_of two_plans 1 ≡ record {
         first_round = 1;
         tasks = record { number = 0; period = 100; offset = 21; wcet = 2 } ∷ [];
         messages = record { number = 0; role = 1; producers = 0 ∷ []; consumers = [] } ∷ [];
-        rounds = record { start = 0; slots = [] } ∷ record { start = 23; slots = record { slot = 1; message = 0; release = pos 0 } ∷ [] } ∷ [];
+        rounds = record { start = 0; slots = [] } ∷ record { start = 23; slots = record { slot = 1; message = 0; release = pos 0; copy = 1 } ∷ [] } ∷ [];
       }
       ∷ record { hyper = 100; first_round = 3; tasks = []; messages = []; rounds = record { start = 0; slots = [] } ∷ [] } ∷ [];
 }
