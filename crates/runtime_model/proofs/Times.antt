@@ -30,7 +30,7 @@ natural_is (pos n) h = refl
 natural_is (negsuc n) h = absurd (omega (arith, ints, h))
 
 -- a product is below the next only where the number is
-at_most_from_times : (z y : ℤ) (g : ℕ) → (z *ℤ pos g) <ℤ ((y +ℤ pos 1) *ℤ pos g) → z ≤ℤ y
+pub at_most_from_times : (z y : ℤ) (g : ℕ) → (z *ℤ pos g) <ℤ ((y +ℤ pos 1) *ℤ pos g) → z ≤ℤ y
 at_most_from_times z y g h =
     ⊎_elim
     (λ (less : up y + down z < up z + down y).
@@ -108,11 +108,11 @@ module _ (nodes : ℕ) (p : Plan) (ok : RightPlan nodes p) where
       let e = message_edge p.mode i a.0 (ok.valid.consumer i l).0 l a.1 (ok.valid.consumer i l).1 in
       omega (arith, ints, (ok.right.s3 a.0 (ok.valid.edges a.0 (ok.valid.consumer i l).0 e).from).from_zero, (ok.right.s4 i l).sent a.0 a.1)
 
-  message_turns : (i : ℕ) → i < length p.mode.messages → (1 ≤ (message_at p.mode i).period) × (hyper p.mode ≡ hyper p.mode / (message_at p.mode i).period * (message_at p.mode i).period)
+  pub message_turns : (i : ℕ) → i < length p.mode.messages → (1 ≤ (message_at p.mode i).period) × (hyper p.mode ≡ hyper p.mode / (message_at p.mode i).period * (message_at p.mode i).period)
   message_turns i l = let c = ok.valid.message_period i l in let one = ok.valid.periods (message_at p.mode i).period c in (one, period_divides p.mode (message_at p.mode i).period one c)
 
   -- some hyperperiods on, the round instance lies in a window
-  in_window : (j i : ℕ) → Carried p j i → (n k : ℕ) × ((opens p.schedule i +ℤ pos (k * (message_at p.mode i).period)) ≤ℤ (round_start p.schedule j +ℤ pos (n * hyper p.mode)))
+  pub in_window : (j i : ℕ) → Carried p j i → (n k : ℕ) × ((opens p.schedule i +ℤ pos (k * (message_at p.mode i).period)) ≤ℤ (round_start p.schedule j +ℤ pos (n * hyper p.mode)))
       × ((round_start p.schedule j +ℤ pos (n * hyper p.mode) +ℤ pos p.mode.round) ≤ℤ (closes p.schedule i +ℤ pos (k * (message_at p.mode i).period)))
   in_window j i c =
       let r = length p.schedule.starts in
@@ -132,7 +132,7 @@ module _ (nodes : ℕ) (p : Plan) (ok : RightPlan nodes p) where
       mul_one : (n h : ℕ) → 1 ≤ h → n * 1 ≤ n * h
       mul_one n h l = mul-le-mul_left n l
 
-  narrow : (i : ℕ) → i < length p.mode.messages → closes p.schedule i ≤ℤ (opens p.schedule i +ℤ pos (message_at p.mode i).period)
+  pub narrow : (i : ℕ) → i < length p.mode.messages → closes p.schedule i ≤ℤ (opens p.schedule i +ℤ pos (message_at p.mode i).period)
   narrow i l = let a = ok.valid.producer i l in omega (arith, ints, (ok.right.s4 i l).sent a.0 a.1, (ok.right.s4 i l).kept a.0 a.1)
 
   -- the release is a release

@@ -1,7 +1,7 @@
 //! Laws of the runtime. Each holds for every list of events, or of calls.
 
 ghost use Rattle.std.specs.Prelude.{List, ℤ};
-ghost use Rattle.runtime_model.specs.Laws.{BeaconGap, BeaconsInOrder, EndsFollowRuns, EntriesAreCycles, HostsFollowEvents, HostsKeepTime, InputsHold, KeptSetsHaveRightPlans, KindsFollow, NothingIsMissing, OneRelease, OneRunAtATime, RecallLooksBack, RegistersHold, ReleasesFit, RoundsAreBegun, RunsEndBeforeSwitch, SendersAreSynced, SettledNodesKnow, SlotsFollowBeacons, StartsArePlaced, StaysAreApart, TicksRise, ValuesAreProduced};
+ghost use Rattle.runtime_model.specs.Laws.{BeaconGap, BeaconsInOrder, CopiesAreNear, CopiesAreNumbered, EndsFollowRuns, EntriesAreCycles, HostsFollowEvents, HostsKeepTime, InputsHold, KeptSetsHaveRightPlans, KindsFollow, NothingIsMissing, OneRelease, OneRunAtATime, RecallLooksBack, RegistersHold, ReleasesFit, RoundsAreBegun, RunsEndBeforeSwitch, SendersAreSynced, SettledNodesKnow, SlotsFollowBeacons, StartsArePlaced, StaysAreApart, TicksRise, ValuesAreProduced};
 
 /// A set that keeps the rules has right plans with each right schedule of its modes.
 pub fn kept_sets_have_right_plans()
@@ -123,4 +123,14 @@ pub fn starts_are_placed()
 /// What was taken in a window are the values of the producers' runs of the same number.
 pub fn values_are_produced()
     ensures { ValuesAreProduced }
+{}
+
+/// A slot carries one of the copies of its message, counted from 1.
+pub fn copies_are_numbered()
+    ensures { CopiesAreNumbered }
+{}
+
+/// The rounds that start in a window up to one of its slots are of the slot's hyperperiod or of the one before.
+pub fn copies_are_near()
+    ensures { CopiesAreNear }
 {}
