@@ -29,7 +29,7 @@ use Rattle.runtime_model.proofs.Once.{start_once}
 use Rattle.runtime_model.proofs.Times.{natural_is, offset_is, task_fits, slot_window, round_from_zero, slot_carried}
 use Rattle.runtime_model.proofs.OutRegisters.{in_cycle, Is, H, P, BeforeSpot, Before, Released, step_back, step_on, same_mode, released_back, time_order, time_before, turns_apart, index_fits, performed_is, start_place, is_placed, not_both, split_before, start_is_quiet, both_true, run_is}
 
-calm : (b d : Bool) → (b ≡ true → d ≡ false) → d ≡ true → b ≡ false
+pub calm : (b d : Bool) → (b ≡ true → d ≡ false) → d ≡ true → b ≡ false
 calm true d f e = absurd (let q : true ≡ false = sym e ∙ f refl in cc)
 calm false d f e = refl
 
@@ -76,7 +76,7 @@ emptied_full : {X : Type 0} (o : Option (Option X)) {x : X} → o ≡ Some None 
 emptied_full o e f = let q = sym e ∙ f in grind (arith, q)
 
 -- a packet that was taken fills the register, and what leaves the register takes none
-took_in : (v b i k : ℕ) (xs : List ℤ) (o : Outcome) → took v i k o ≡ Some xs → last_in v b i o ≡ Some (Some (k, xs))
+pub took_in : (v b i k : ℕ) (xs : List ℤ) (o : Outcome) → took v i k o ≡ Some xs → last_in v b i o ≡ Some (Some (k, xs))
 took_in v b i k xs (sent w j l ys ts) e =
     let c = cond_some (nat_eq j i && (nat_eq l k && has ts v)) (Some ys) xs e in
     let a = and_parts (nat_eq j i) (nat_eq l k && has ts v) c.0 in
@@ -93,7 +93,7 @@ took_in v b i k xs (void w c) e = absurd (grind (arith, e))
 took_in v b i k xs (requested m) e = absurd (grind (arith, e))
 took_in v b i k xs (restarted w) e = absurd (grind (arith, e))
 
-in_took : (v b i k : ℕ) (xs : List ℤ) (o : Outcome) → last_in v b i o ≡ Some (Some (k, xs)) → took v i k o ≡ Some xs
+pub in_took : (v b i k : ℕ) (xs : List ℤ) (o : Outcome) → last_in v b i o ≡ Some (Some (k, xs)) → took v i k o ≡ Some xs
 in_took v b i k xs (sent w j l ys ts) e =
     let c = cond_some {X = Option (ℕ × List ℤ)} (nat_eq j i && has ts v) (Some (Some (l, ys))) (Some (k, xs)) e in
     let a = and_parts (nat_eq j i) (has ts v) c.0 in
@@ -113,7 +113,7 @@ in_took v b i k xs (void w c) e = absurd (grind (arith, e))
 in_took v b i k xs (requested m) e = absurd (grind (arith, e))
 in_took v b i k xs (restarted w) e = absurd (grind (arith, e))
 
-none_took : (v b i k : ℕ) (o : Outcome) → last_in v b i o ≡ None → took v i k o ≡ None
+pub none_took : (v b i k : ℕ) (o : Outcome) → last_in v b i o ≡ None → took v i k o ≡ None
 none_took v b i k o e = by_case (took v i k o) refl
   where
     by_case : (t : Option (List ℤ)) → took v i k o ≡ t → t ≡ None
@@ -143,25 +143,25 @@ start_is y p s lost ds u (task_starts c) v b i e = ap task_starts (by_start (pla
     by_start true e = eqb-true c b (cond_some {X = Option (ℕ × List ℤ)} (nat_eq c b) (Some None) None e).0
     by_start false e = absurd (grind (arith, e))
 
-none_all : {X Y : Type 0} (f : Outcome → Option X) (g : Outcome → Option Y) (v st : ℕ) (ds : List Step) → ((o : Outcome) → f o ≡ None → g o ≡ None) → recall v st f ds ≡ None → recall v st g ds ≡ None
+pub none_all : {X Y : Type 0} (f : Outcome → Option X) (g : Outcome → Option Y) (v st : ℕ) (ds : List Step) → ((o : Outcome) → f o ≡ None → g o ≡ None) → recall v st f ds ≡ None → recall v st g ds ≡ None
 none_all f g v st [] h e = refl
 none_all f g v st (d ∷ ds) h e = none_step (runs v (d ∷ ds) && nat_eq d.spot.stay st) (f d.out) (recall v st f ds) (g d.out) (recall v st g ds) (h d.out) (none_all f g v st ds h) e
 
-some_all : {X Y : Type 0} (f : Outcome → Option X) (g : Outcome → Option Y) (x : X) (z : Y) (v st : ℕ) (ds : List Step) → ((o : Outcome) → f o ≡ None → g o ≡ None) → ((o : Outcome) → f o ≡ Some x → g o ≡ Some z) → recall v st f ds ≡ Some x → recall v st g ds ≡ Some z
+pub some_all : {X Y : Type 0} (f : Outcome → Option X) (g : Outcome → Option Y) (x : X) (z : Y) (v st : ℕ) (ds : List Step) → ((o : Outcome) → f o ≡ None → g o ≡ None) → ((o : Outcome) → f o ≡ Some x → g o ≡ Some z) → recall v st f ds ≡ Some x → recall v st g ds ≡ Some z
 some_all f g x z v st [] h k e = absurd (grind (arith, e))
 some_all f g x z v st (d ∷ ds) h k e = some_step (runs v (d ∷ ds) && nat_eq d.spot.stay st) (f d.out) (recall v st f ds) (g d.out) (recall v st g ds) x z (k d.out) (h d.out) (some_all f g x z v st ds h k) e
 
 -- ---- a past start of a later run
 module _ (y : System) (md b i : ℕ) (ok : RightPlan y.nodes (plan_at y md)) (il : i < length (plan_at y md).mode.messages) (to : Contains (message_at (plan_at y md).mode i).to b) where
-  consumer : b < length (plan_at y md).mode.tasks
+  pub consumer : b < length (plan_at y md).mode.tasks
   consumer =
       let a = ok.valid.producer i il in
       (ok.valid.edges a.0 b (message_edge (plan_at y md).mode i a.0 b il a.1 to)).to
 
-  fit : TaskFits y.nodes (plan_at y md) b
+  pub fit : TaskFits y.nodes (plan_at y md) b
   fit = task_fits y.nodes (plan_at y md) ok b consumer
 
-  some : 1 ≤ length (entries y md)
+  pub some : 1 ≤ length (entries y md)
   some = let w = start_place y md b fit 0 in omega (arith, w.3.0)
 
   -- the times of a slot that filled the register
@@ -221,7 +221,7 @@ module _ (y : System) (md b i : ℕ) (ok : RightPlan y.nodes (plan_at y md)) (il
       (l, ins, y.answers ds number ins, out ∙ ap (start_or_not y p s ds b u) may)
 
   -- after a packet of window l no start of run l is past while the register is full
-  no_start_before : (es : List PlainEvent) (st n j u l : ℕ) (xs : List ℤ) → (last_spot (history y es)).hyper.mode ≡ md →
+  pub no_start_before : (es : List PlainEvent) (st n j u l : ℕ) (xs : List ℤ) → (last_spot (history y es)).hyper.mode ≡ md →
       recall (node_of (plan_at y md) b) st (last_in (node_of (plan_at y md) b) b i) (history y es) ≡ Some (Some (l, xs)) → Is y md j u (task_starts b) → n * H y md + u ≡ offset (plan_at y md) b + l * P (plan_at y md) b →
       Before (history y es) n j → Released (plan_at y md) (last_spot (history y es)) (l * P (plan_at y md) b) → ⊥
   no_start_before [] st n j u l xs m e is t before r = absurd (grind (arith, e))
@@ -264,7 +264,7 @@ module _ (y : System) (md b i : ℕ) (ok : RightPlan y.nodes (plan_at y md)) (il
       (or_cases (last_in v b i d.out) (recall v st (last_in v b i) ds) (Some (l, xs)) c.1)
 
   -- the packet that filled the register is past
-  filled_was : (es : List PlainEvent) (st v l : ℕ) (xs : List ℤ) → (last_spot (history y es)).hyper.mode ≡ md → recall v st (last_in v b i) (history y es) ≡ Some (Some (l, xs)) →
+  pub filled_was : (es : List PlainEvent) (st v l : ℕ) (xs : List ℤ) → (last_spot (history y es)).hyper.mode ≡ md → recall v st (last_in v b i) (history y es) ≡ Some (Some (l, xs)) →
       (n : ℕ) × (j : ℕ) × Filled n l j × Before (history y es) n j
   filled_was [] st v l xs m e = absurd (grind (arith, e))
   filled_was (request q ∷ es) st v l xs m e = let ds = history y es in let d = step_of y (request q) ds in
@@ -325,7 +325,7 @@ module _ (y : System) (md b i : ℕ) (ok : RightPlan y.nodes (plan_at y md)) (il
       l
 
   -- a packet that was taken is past
-  took_was : (es : List PlainEvent) (st v k : ℕ) (xs : List ℤ) → (last_spot (history y es)).hyper.mode ≡ md → recall v st (took v i k) (history y es) ≡ Some xs →
+  pub took_was : (es : List PlainEvent) (st v k : ℕ) (xs : List ℤ) → (last_spot (history y es)).hyper.mode ≡ md → recall v st (took v i k) (history y es) ≡ Some xs →
       (n : ℕ) × (j : ℕ) × Filled n k j × Before (history y es) n j
   took_was [] st v k xs m e = absurd (grind (arith, e))
   took_was (request q ∷ es) st v k xs m e = let ds = history y es in let d = step_of y (request q) ds in
@@ -360,7 +360,7 @@ module _ (y : System) (md b i : ℕ) (ok : RightPlan y.nodes (plan_at y md)) (il
       some_steps (suc k) p x z l e = omega (arith, e)
 
   -- where a start emptied the register last, nothing was taken in the window of a start to come
-  none_since_start : (es : List PlainEvent) (st v k n g u : ℕ) (xs : List ℤ) → (last_spot (history y es)).hyper.mode ≡ md →
+  pub none_since_start : (es : List PlainEvent) (st v k n g u : ℕ) (xs : List ℤ) → (last_spot (history y es)).hyper.mode ≡ md →
       recall v st (last_in v b i) (history y es) ≡ Some None → recall v st (took v i k) (history y es) ≡ Some xs →
       Is y md g u (task_starts b) → n * H y md + u ≡ offset (plan_at y md) b + k * P (plan_at y md) b → ((m j : ℕ) → Before (history y es) m j → (m < n) ⊎ (m ≡ n) × (j < g)) → ⊥
   none_since_start [] st v k n g u xs m e f is t bound = absurd (grind (arith, e))

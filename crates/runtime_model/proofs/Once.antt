@@ -1,16 +1,20 @@
--- Each start, each end and each beacon stands once in its cycle
-use Rattle.std.proofs.Common.{◌≡◌, ℕ, zero, suc, ◌+◌, ◌-◌, ◌<◌, ◌≤◌, Bool, true, false, cond, ◌&&◌, List, [], ◌∷◌, ◌++◌, length, get_or, map, refl, sym, ◌∙◌, ap, subst, arith, ⊎_elim, length-append}
-use Rattle.std.specs.Prelude.{nat_eq, slice_index_or}
+-- Each start, each end, each beacon and each slot stands once in its cycle
+use Rattle.std.proofs.Common.{◌≡◌, ℕ, zero, suc, ◌+◌, ◌-◌, ◌<◌, ◌≤◌, Bool, true, false, cond, ◌&&◌, List, [], ◌∷◌, ◌++◌, length, get_or, map, not, Contains, refl, sym, ◌∙◌, ap, subst, arith, ⊎_elim, length-append}
+use Rattle.std.specs.Prelude.{nat_eq, slice_index_or, All}
 use Rattle.std.specs.List.{AllByRecursion, flat_map}
 use Rattle.std.proofs.lemmas.Bool.{cases_lt, eqb-true, and_parts}
-use Rattle.std.proofs.lemmas.List.{get_or_append_left, get_or-append-add}
-use Rattle.sched_model.specs.Numbers.{below, natural}
+use Rattle.std.proofs.lemmas.List.{get_or_append_left, get_or-append-add, get_or_default, get_or-map, length-map}
+use Rattle.std.proofs.lemmas.List.Elements.{All-get_or}
+use Rattle.sched_model.specs.Numbers.{below, natural, has, distinct}
 use Rattle.sched_model.specs.Rounds.{round_start}
-use Rattle.sched_model.specs.PlainMode.{hyper, task_at}
+use Rattle.sched_model.specs.PlainMode.{hyper, task_at, message_at}
+use Rattle.sched_model.specs.RightSchedule.{TableFits}
 use Rattle.runtime_model.specs.Entries.{Entry, Action, task_ends, beacon, slot, task_starts, cycle, at_tick, by_node, round_at, due_start, due_end}
-use Rattle.runtime_model.specs.Plans.{Plan, place_from}
+use Rattle.runtime_model.specs.Plans.{Plan, RightPlan, place_from}
+use Rattle.sched_model.proofs.Graph.{contains_has}
 use Rattle.sched_model.proofs.Lists.{all_both, flat_all, below_all, cond_all}
 use Rattle.runtime_model.proofs.Cycles.{all_map, none, all_at, all_more, all_by_node, At, at_right, RightIn, ends_right, rounds_right, starts_right, rank, flat_below-suc}
+use Rattle.runtime_model.proofs.Times.{number_is}
 
 abbrev pub Once : List Entry → Entry → Type 0
 Once xs x = (i j : ℕ) → i < length xs → j < length xs → get_or xs i none ≡ x → get_or xs j none ≡ x → i ≡ j
@@ -158,3 +162,66 @@ beacon_once nodes p u j =
 
     no_slot : (i m : ℕ) → slot i m ≡ beacon j → ⊥
     no_slot i m q = grind (arith, q)
+
+-- ---- slots
+once_tail : (xs : List Entry) (y x : Entry) → (y ≡ x → ⊥) → Once xs x → Once (y ∷ xs) x
+once_tail xs y x other o zero k li lk ei ek = absurd (other ei)
+once_tail xs y x other o (suc i) zero li lk ei ek = absurd (other ek)
+once_tail xs y x other o (suc i) (suc k) li lk ei ek = omega (arith, o i k (omega (arith, li)) (omega (arith, lk)) ei ek)
+
+not_again : (b : Bool) → b ≡ true → not b ≡ true → ⊥
+not_again true e h = absurd cc
+not_again false e h = absurd cc
+
+-- a number of a table without repeats has one place
+one_place : (xs : List ℕ) → distinct xs ≡ true → (i k : ℕ) → i < length xs → k < length xs → get_or xs i 0 ≡ get_or xs k 0 → i ≡ k
+one_place [] d i k li lk e = absurd (omega (arith, li))
+one_place (x ∷ xs) d zero zero li lk e = refl
+one_place (x ∷ xs) d zero (suc k) li lk e = absurd (not_again (has xs x) (contains_has xs x (k, omega (arith, lk), get_or_default xs k x 0 (omega (arith, lk)) ∙ sym e)) (and_parts (not (has xs x)) (distinct xs) d).0)
+one_place (x ∷ xs) d (suc i) zero li lk e = absurd (not_again (has xs x) (contains_has xs x (i, omega (arith, li), get_or_default xs i x 0 (omega (arith, li)) ∙ e)) (and_parts (not (has xs x)) (distinct xs) d).0)
+one_place (x ∷ xs) d (suc i) (suc k) li lk e = omega (arith, one_place xs (and_parts (not (has xs x)) (distinct xs) d).1 i k (omega (arith, li)) (omega (arith, lk)) e)
+
+pub slot_once : (nodes : ℕ) (p : Plan) (u j m : ℕ) → RightPlan nodes p → j < length p.schedule.starts → Once (cycle nodes p) (record { tick = u; action = slot j m })
+unfolding cycle
+slot_once nodes p u j m ok lj =
+    let x : Entry = record { tick = u; action = slot j m } in
+    let es = by_node nodes p (due_end p u) task_ends u in
+    let ss = by_node nodes p (due_start p u) task_starts u in
+    let rs = flat_map (round_at p u) (below (length p.schedule.starts)) in
+    let slot_of = λ (i number : ℕ). let e : Entry = record { tick = u; action = slot i (place_from 0 p.mode.messages number) } in e in
+    let table = slice_index_or p.schedule.tables j [] in
+    once_flat (at_tick nodes p) x u
+    (λ t other. all_more (At p t) (λ e. e ≡ x → ⊥) (at_tick nodes p t) (λ e h q. other (sym h.0 ∙ ap (λ (z : Entry). z.tick) q)) (at_right nodes p t))
+    (once_right es (rs ++ ss) x
+    (all_more (RightIn p u 0) (λ e. e ≡ x → ⊥) es (λ e h q. omega (arith, h.2, ap (λ (z : Entry). rank z.action) q)) (ends_right nodes p u))
+    (once_left rs ss x
+    (once_flat (round_at p u) x j
+    (λ i other. cond_all (λ e. e ≡ x → ⊥) (nat_eq (natural (round_start p.schedule i)) u) (record { tick = u; action = beacon i } ∷ map (slot_of i) (slice_index_or p.schedule.tables i []))
+    (λ t. (
+      (λ q. no_beacon i (ap (λ (z : Entry). z.action) q)),
+      all_map (λ e. e ≡ x → ⊥) (slot_of i) (slice_index_or p.schedule.tables i []) (λ number c q. other (same_slot i (place_from 0 p.mode.messages number) (ap (λ (z : Entry). z.action) q)).0),
+    )))
+    (once_when (nat_eq (natural (round_start p.schedule j)) u) (record { tick = u; action = beacon j } ∷ map (slot_of j) table) x
+    (once_tail (map (slot_of j) table) (record { tick = u; action = beacon j }) x (λ q. no_beacon j (ap (λ (z : Entry). z.action) q)) in_table))
+    (length p.schedule.starts))
+    (all_more (RightIn p u 2) (λ e. e ≡ x → ⊥) ss (λ e h q. omega (arith, h.2, ap (λ (z : Entry). rank z.action) q)) (starts_right nodes p u))))
+    (hyper p.mode)
+  where
+    no_beacon : (i : ℕ) → beacon i ≡ slot j m → ⊥
+    no_beacon i q = grind (arith, q)
+
+    same_slot : (i n : ℕ) → slot i n ≡ slot j m → (i ≡ j) × (n ≡ m)
+    same_slot i n q = grind (arith, q)
+
+    in_table : Once (map (λ (number : ℕ). let e : Entry = record { tick = u; action = slot j (place_from 0 p.mode.messages number) } in e) (slice_index_or p.schedule.tables j [])) (record { tick = u; action = slot j m })
+    in_table i k li lk ei ek =
+        let slot_of = λ (number : ℕ). let e : Entry = record { tick = u; action = slot j (place_from 0 p.mode.messages number) } in e in
+        let table = slice_index_or p.schedule.tables j [] in
+        let size = length-map table slot_of in
+        let a = number_is nodes p ok j (get_or table i 0) lj (i, omega (arith, li, size), get_or_default table i (get_or table i 0) 0 (omega (arith, li, size))) in
+        let b = number_is nodes p ok j (get_or table k 0) lj (k, omega (arith, lk, size), get_or_default table k (get_or table k 0) 0 (omega (arith, lk, size))) in
+        let at_i = (same_slot j (place_from 0 p.mode.messages (get_or table i 0)) (ap (λ (z : Entry). z.action) (sym (get_or-map slot_of table i 0 none (omega (arith, li, size))) ∙ ei))).1 in
+        let at_k = (same_slot j (place_from 0 p.mode.messages (get_or table k 0)) (ap (λ (z : Entry). z.action) (sym (get_or-map slot_of table k 0 none (omega (arith, lk, size))) ∙ ek))).1 in
+        let same : a.0 ≡ b.0 = omega (arith, a.1, b.1, at_i, at_k) in
+        let fits = All-get_or (TableFits p.mode) p.schedule.tables j [] (omega (arith, lj, ok.right.shape.starts, ok.right.shape.tables)) ok.right.s7.tables in
+        one_place table fits.once i k (omega (arith, li, size)) (omega (arith, lk, size)) (sym a.3 ∙ ap (λ z. (message_at p.mode z).number) same ∙ b.3)

@@ -1,5 +1,5 @@
 -- The times of tasks and slots under a right plan
-use Rattle.std.proofs.Common.{◌≡◌, ℕ, zero, suc, ◌+◌, ◌-◌, ◌*◌, ◌/◌, ◌%◌, ◌<◌, ◌≤◌, Bool, true, false, List, [], ◌∷◌, length, get_or, refl, sym, ◌∙◌, ap, subst, arith, ⊎_elim, ℤ, pos, negsuc, ◌+ℤ◌, ◌-ℤ◌, ◌*ℤ◌, ◌≤ℤ◌, ◌<ℤ◌}
+use Rattle.std.proofs.Common.{◌≡◌, ℕ, zero, suc, ◌+◌, ◌-◌, ◌*◌, ◌/◌, ◌%◌, ◌<◌, ◌≤◌, Bool, true, false, List, [], ◌∷◌, length, get_or, Contains, refl, sym, ◌∙◌, ap, subst, arith, ⊎_elim, ℤ, pos, negsuc, ◌+ℤ◌, ◌-ℤ◌, ◌*ℤ◌, ◌≤ℤ◌, ◌<ℤ◌}
 use Rattle.std.specs.Int.{int_div_euclid}
 use Rattle.std.proofs.lemmas.Int.{ints}
 use Rattle.std.proofs.lemmas.Nat.{mod-mul-add, div-mul-add, le-div}
@@ -248,14 +248,20 @@ place_is n [] number i l e = absurd (omega (arith, l))
 place_is n (m ∷ ms) number i l e = place_step n m ms number (place_is (suc n) ms number) (nat_eq m.number number) refl i l e
 
 module _ (nodes : ℕ) (p : Plan) (ok : RightPlan nodes p) where
+  -- a number of a table is that of the message at its place
+  pub number_is : (j number : ℕ) → j < length p.schedule.starts → Contains (get_or p.schedule.tables j []) number →
+      (k : ℕ) × (place_from 0 p.mode.messages number ≡ 0 + k) × (k < length p.mode.messages) × ((message_at p.mode k).number ≡ number)
+  number_is j number l c =
+      let own = All-contains (IsMessage p.mode) (get_or p.schedule.tables j []) number (All-get_or (λ table. All (IsMessage p.mode) table) p.schedule.tables j [] (omega (arith, l, ok.right.shape.starts, ok.right.shape.tables)) ok.right.shape.numbers) c in
+      let number_of = λ (msg : PlainMessage). msg.number in
+      let place : own.0 < length p.mode.messages = omega (arith, own.1, length-map p.mode.messages number_of) in
+      let is = sym (get_or-map number_of p.mode.messages own.0 no_message number place) ∙ own.2 in
+      place_is 0 p.mode.messages number own.0 place is
+
   -- a slot of the cycle is carried
   pub slot_carried : (u j i : ℕ) → RightAt p u (slot j i) → Carried p j i
   slot_carried u j i r =
-      let own = All-contains (IsMessage p.mode) (get_or p.schedule.tables j []) r.2.0 (All-get_or (λ table. All (IsMessage p.mode) table) p.schedule.tables j [] (omega (arith, r.0, ok.right.shape.starts, ok.right.shape.tables)) ok.right.shape.numbers) r.2.1 in
-      let number_of = λ (msg : PlainMessage). msg.number in
-      let place : own.0 < length p.mode.messages = omega (arith, own.1, length-map p.mode.messages number_of) in
-      let is = sym (get_or-map number_of p.mode.messages own.0 no_message r.2.0 place) ∙ own.2 in
-      let k = place_is 0 p.mode.messages r.2.0 own.0 place is in
+      let k = number_is j r.2.0 r.0 r.2.1 in
       let same : k.0 ≡ i = omega (arith, r.2.2, k.1) in (
         r.0,
         subst (λ z. z < length p.mode.messages) same k.2,

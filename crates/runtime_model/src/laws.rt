@@ -1,7 +1,7 @@
 //! Laws of the runtime. Each holds for every list of events, or of calls.
 
 ghost use Rattle.std.specs.Prelude.{List, ℤ};
-ghost use Rattle.runtime_model.specs.Laws.{BeaconGap, BeaconsInOrder, CopiesAreNear, CopiesAreNumbered, EndsFollowRuns, EntriesAreCycles, HostsFollowEvents, HostsKeepTime, InputsHold, KeptSetsHaveRightPlans, KindsFollow, NothingIsMissing, OneRelease, OneRunAtATime, RecallLooksBack, RegistersHold, ReleasesFit, RoundsAreBegun, RunsEndBeforeSwitch, SendersAreSynced, SettledNodesKnow, SlotsFollowBeacons, StartsArePlaced, StaysAreApart, TicksRise, ValuesAreProduced};
+ghost use Rattle.runtime_model.specs.Laws.{BeaconGap, BeaconsInOrder, CopiesAreNear, CopiesAreNumbered, EndsFollowRuns, EntriesAreCycles, FirstCopiesAreFirst, HostsFollowEvents, HostsKeepTime, InputsHold, InputsHoldAtSlots, KeptSetsHaveRightPlans, KindsFollow, NothingIsMissing, OneRelease, OneRunAtATime, RecallLooksBack, RegistersHold, ReleasesFit, RoundsAreBegun, RunsEndBeforeSwitch, SendersAreSynced, SettledNodesKnow, SlotsFollowBeacons, StartsArePlaced, StaysAreApart, TicksRise, ValuesAreProduced};
 
 /// A set that keeps the rules has right plans with each right schedule of its modes.
 pub fn kept_sets_have_right_plans()
@@ -133,4 +133,14 @@ pub fn copies_are_numbered()
 /// The rounds that start in a window up to one of its slots are of the slot's hyperperiod or of the one before.
 pub fn copies_are_near()
     ensures { CopiesAreNear }
+{}
+
+/// At a placed slot the in registers have what was taken in the slot's window: no other one filled them.
+pub fn inputs_hold_at_slots()
+    ensures { InputsHoldAtSlots }
+{}
+
+/// Before the slot with the first copy of a window, no node has taken anything of that window.
+pub fn first_copies_are_first()
+    ensures { FirstCopiesAreFirst }
 {}
