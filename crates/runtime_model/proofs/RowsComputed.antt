@@ -2,7 +2,7 @@
 use Rattle.std.proofs.Common.{refl}
 use Rattle.sched_model.specs.PlainMode.{hyper}
 use Rattle.runtime_model.specs.Entries.{cycle}
-use Rattle.runtime_model.specs.Rows.{LatestRequest, LatestRequestExchanged, LostBeacon, MissedWarning, ModeChange, ModeChangeHost, NodePart, RestartAfterBeacon, RestartBeforeBeacon}
+use Rattle.runtime_model.specs.Rows.{CopiesInPart, CopyLost, CopyPassedOver, LatestRequest, LatestRequestExchanged, LostBeacon, MissedWarning, ModeChange, ModeChangeHost, NodePart, RestartAfterBeacon, RestartBeforeBeacon}
 
 pub lost_beacon : LostBeacon
 unfolding cycle hyper
@@ -39,3 +39,15 @@ latest_exchanged = refl
 pub node_part : NodePart
 unfolding hyper
 node_part = refl
+
+pub copy_lost : CopyLost
+unfolding cycle hyper
+copy_lost = refl
+
+pub copy_passed_over : CopyPassedOver
+unfolding cycle hyper
+copy_passed_over = refl
+
+pub copies_in_part : CopiesInPart
+unfolding hyper
+copies_in_part = refl

@@ -1,5 +1,5 @@
--- Worked rows: what scripts do in three small systems, line by line
-use Rattle.std.specs.Prelude.{◌≡◌, ℕ, true, false, List, [], ◌∷◌, drop, replicate, reverse, Some, None, pos}
+-- Worked rows: what scripts do in four small systems, line by line
+use Rattle.std.specs.Prelude.{◌≡◌, ℕ, true, false, List, [], ◌∷◌, drop, replicate, reverse, Some, None, pos, negsuc}
 use Rattle.std.specs.List.{flat_map}
 use Rattle.task_body.specs.Body.{BodySeen, first_numbers}
 use Rattle.task_body.specs.Tally.{answer, numbers_after_fire}
@@ -43,6 +43,24 @@ loop_plan = record {
   };
 }
 
+-- the same loop, where `sense` sends two copies of `m1`
+abbrev pub double_mode : PlainMode
+double_mode = record loop_mode {
+  messages = record { number = 0; period = 100; deadline = 100; copies = 2; from = 0 ∷ []; to = 1 ∷ [] }
+      ∷ record { number = 1; period = 100; deadline = 100; copies = 1; from = 1 ∷ []; to = 2 ∷ [] } ∷ [];
+}
+
+abbrev pub double_plan : Plan
+double_plan = record {
+  mode = double_mode;
+  schedule = record {
+    starts = pos 0 ∷ pos 23 ∷ pos 43 ∷ [];
+    tasks = pos 21 ∷ pos 63 ∷ pos 120 ∷ [];
+    messages = (pos 23, pos 63) ∷ (pos 68, pos 120) ∷ [];
+    tables = (1 ∷ []) ∷ (0 ∷ []) ∷ (0 ∷ []) ∷ [];
+  };
+}
+
 -- a mode of one task, with this number and node, that starts with the mode's one round
 abbrev pub single_plan : (slots number node : ℕ) → Plan
 single_plan slots number node = record {
@@ -63,6 +81,13 @@ two_plans = loop_plan ∷ single_plan 2 3 2 ∷ []
 
 abbrev pub two : System
 two = record { nodes = 3; host = 0; plans = two_plans; answers = by_bodies two_plans tallies }
+
+-- the loop with two copies alone
+abbrev pub double_plans : List Plan
+double_plans = double_plan ∷ []
+
+abbrev pub double : System
+double = record { nodes = 3; host = 0; plans = double_plans; answers = by_bodies double_plans tallies }
 
 -- two modes of one task each, both on node 1
 abbrev pub pair_plans : List Plan
@@ -203,4 +228,48 @@ NodePart = part_of two_plans 1 ≡ record {
         rounds = record { start = 0; slots = [] } ∷ record { start = 23; slots = record { slot = 1; message = 0; release = pos 0; copy = 1 } ∷ [] } ∷ [];
       }
       ∷ record { hyper = 100; first_round = 3; tasks = []; messages = []; rounds = record { start = 0; slots = [] } ∷ [] } ∷ [];
+}
+
+-- the consumer's node loses the first copy and takes the second
+abbrev pub CopyLost : Type 0
+CopyLost = told double (events_of (go 7 ∷ lose 1 ∷ go 4 ∷ [])) ≡
+    line 0 0 (opening_beacon 1 0 (0 ∷ 1 ∷ 2 ∷ []))
+    ∷ line 0 0 (silent 1)
+    ∷ line 20 0 (off 2 2)
+    ∷ line 21 0 (void 2 2)
+    ∷ line 21 0 (started 1 0 0 [] (pos 1))
+    ∷ line 23 0 (finished 1 0 0 (pos 1))
+    ∷ line 23 0 (opening_beacon 2 0 (0 ∷ 1 ∷ 2 ∷ []))
+    ∷ line 23 0 (sent 1 0 0 (pos 1 ∷ []) [])
+    ∷ line 43 0 (opening_beacon 3 0 (0 ∷ 1 ∷ 2 ∷ []))
+    ∷ line 43 0 (sent 1 0 0 (pos 1 ∷ []) (0 ∷ []))
+    ∷ line 63 0 (started 0 1 0 (Some (pos 1) ∷ []) (pos 2))
+    ∷ line 68 0 (finished 0 1 0 (pos 2))
+    ∷ []
+
+-- it takes the first copy and passes over the second: from the eighth line on
+abbrev pub CopyPassedOver : Type 0
+CopyPassedOver = drop 7 (told double (events_of (go 12 ∷ []))) ≡
+    line 23 0 (sent 1 0 0 (pos 1 ∷ []) (0 ∷ []))
+    ∷ line 43 0 (opening_beacon 3 0 (0 ∷ 1 ∷ 2 ∷ []))
+    ∷ line 43 0 (sent 1 0 0 (pos 1 ∷ []) [])
+    ∷ line 63 0 (started 0 1 0 (Some (pos 1) ∷ []) (pos 2))
+    ∷ line 68 0 (finished 0 1 0 (pos 2))
+    ∷ []
+
+-- the part of node 0 where `m1` has two copies: the second and the third round carry the first and the second one
+abbrev pub CopiesInPart : Type 0
+CopiesInPart = part_of double_plans 0 ≡ record {
+  node = 0;
+  modes =
+      record {
+        hyper = 100;
+        first_round = 1;
+        tasks = record { number = 1; period = 100; offset = 63; wcet = 5 } ∷ [];
+        messages = record { number = 0; role = 2; producers = 0 ∷ []; consumers = 1 ∷ [] } ∷ record { number = 1; role = 1; producers = 1 ∷ []; consumers = [] } ∷ [];
+        rounds = record { start = 0; slots = record { slot = 1; message = 1; release = negsuc 99; copy = 1 } ∷ [] }
+            ∷ record { start = 23; slots = record { slot = 1; message = 0; release = pos 0; copy = 1 } ∷ [] }
+            ∷ record { start = 43; slots = record { slot = 1; message = 0; release = pos 0; copy = 2 } ∷ [] } ∷ [];
+      }
+      ∷ [];
 }

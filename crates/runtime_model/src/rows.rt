@@ -1,6 +1,6 @@
 //! Worked rows: what scripts do in small systems, computed from the definitions alone.
 
-ghost use Rattle.runtime_model.specs.Rows.{LatestRequest, LatestRequestExchanged, LostBeacon, MissedWarning, ModeChange, ModeChangeHost, NodePart, PairIsRight, RestartAfterBeacon, RestartBeforeBeacon};
+ghost use Rattle.runtime_model.specs.Rows.{CopiesInPart, CopyLost, CopyPassedOver, LatestRequest, LatestRequestExchanged, LostBeacon, MissedWarning, ModeChange, ModeChangeHost, NodePart, PairIsRight, RestartAfterBeacon, RestartBeforeBeacon};
 
 /// A node that misses a round's beacon does not send in it.
 pub fn lost_beacon()
@@ -33,6 +33,21 @@ pub fn latest_request_counts()
 /// What a node keeps of the plans.
 pub fn node_part()
     ensures { NodePart }
+{}
+
+/// A node takes the second copy where it lost the first.
+pub fn copy_lost()
+    ensures { CopyLost }
+{}
+
+/// A node that took the first copy passes over the second.
+pub fn copy_passed_over()
+    ensures { CopyPassedOver }
+{}
+
+/// What a node keeps of a plan with two copies of a message.
+pub fn copies_in_part()
+    ensures { CopiesInPart }
 {}
 
 /// Two modes of one task each have right plans, so the laws speak of some system.
