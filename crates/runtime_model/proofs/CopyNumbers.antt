@@ -11,7 +11,7 @@ use borrow.Author.Differences.{same_in, le-true, at_most_in, true_is_le, le_out}
 use Rattle.tick_num.proofs.Floor.{sum-times}
 use Rattle.sched_model.specs.Numbers.{below, has}
 use Rattle.sched_model.specs.PlainMode.{hyper, message_at}
-use Rattle.sched_model.specs.Rounds.{round_start, opens, closes, start, Carries, InWindow, Serves}
+use Rattle.sched_model.specs.Rounds.{round_start, opens, start, Carries, InWindow, Serves}
 use Rattle.sched_model.specs.RightSchedule.{Exactly}
 use Rattle.sched_model.specs.ServedCounts.{one_if, how_many}
 use Rattle.sched_model.proofs.Hyperperiods.{hyper_some}

@@ -1,5 +1,5 @@
 -- At a slot of window k an in register that is full was filled in window k, and before its first copy none was
-use Rattle.std.proofs.Common.{◌≡◌, ℕ, suc, ◌+◌, ◌*◌, ◌<◌, ◌≤◌, true, List, ◌∷◌, length, Contains, refl, sym, ◌∙◌, ap, subst, arith, ◌⊎◌, inl, inr, ⊎_elim, ℤ, pos, ◌+ℤ◌, ◌-ℤ◌, ◌*ℤ◌, ◌≤ℤ◌}
+use Rattle.std.proofs.Common.{◌≡◌, ℕ, ◌+◌, ◌*◌, ◌<◌, ◌≤◌, true, List, ◌∷◌, length, Contains, refl, sym, ◌∙◌, ap, subst, arith, ◌⊎◌, inl, inr, ⊎_elim, ℤ, pos, ◌+ℤ◌, ◌-ℤ◌, ◌*ℤ◌, ◌≤ℤ◌}
 use Rattle.std.specs.Prelude.{Option, Some, None}
 use Rattle.std.proofs.lemmas.Int.{ints}
 use Rattle.std.proofs.lemmas.Bool.{cases_lt}
@@ -9,12 +9,12 @@ use Rattle.sched_model.specs.PlainMode.{message_at}
 use Rattle.sched_model.specs.Rounds.{round_start, opens, closes}
 use Rattle.runtime_model.specs.Entries.{Entry, Action, slot, task_starts}
 use Rattle.runtime_model.specs.Timeline.{drains}
-use Rattle.runtime_model.specs.Plans.{Plan, RightPlan, Carried, node_of, offset}
+use Rattle.runtime_model.specs.Plans.{Plan, RightPlan, Carried, node_of}
 use Rattle.runtime_model.specs.Placement.{release, placed, own_slot, window_at}
 use Rattle.runtime_model.specs.Copies.{copy_at}
 use Rattle.runtime_model.specs.Outcomes.{PlainEvent, advance, took}
 use Rattle.runtime_model.specs.LookingBack.{recall}
-use Rattle.runtime_model.specs.Registers.{last_in, flat, values_of, in_register}
+use Rattle.runtime_model.specs.Registers.{last_in, flat, values_of}
 use Rattle.runtime_model.specs.System.{System, plan_at}
 use Rattle.runtime_model.specs.History.{history, spot_next, entries, entry_at}
 use Rattle.runtime_model.specs.Laws.{InputsHoldAtSlots, FirstCopiesAreFirst}
@@ -23,7 +23,7 @@ use Rattle.runtime_model.proofs.Once.{slot_once}
 use Rattle.runtime_model.proofs.Spots.{moves, stands}
 use Rattle.runtime_model.proofs.Registers.{recall_stay}
 use Rattle.runtime_model.proofs.Times.{natural_is, offset_is, slot_window, slot_carried, narrow, round_from_zero, window_is}
-use Rattle.runtime_model.proofs.OutRegisters.{Is, H, P, Before, Released, step_back, step_on, same_mode, released_back, time_order, time_before, turns_apart, index_fits, start_place}
+use Rattle.runtime_model.proofs.OutRegisters.{Is, H, P, step_back, step_on, same_mode, released_back, time_order, time_before, turns_apart, index_fits, start_place}
 use Rattle.runtime_model.proofs.InRegisters.{calm, consumer, fit, some, no_start_before, filled_was, took_was, none_since_start, none_took, in_took, none_all, some_all}
 use Rattle.runtime_model.proofs.CopyNumbers.{near, counts, so_counts, own_counts, copy_is, one_counts, two_count}
 
