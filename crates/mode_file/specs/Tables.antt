@@ -7,7 +7,7 @@ use Rattle.std.specs.Option.{option_and_then, option_map_or}
 use Rattle.std.specs.Cmp.Lexicographic.{slice_cmp}
 use Rattle.toml.specs.Data.{Data, string, integer, array, Items, no_items, item, Members, no_members, member, get_member, as_str, as_integer, as_array, as_table}
 use Rattle.app_graph.specs.declared.keys.Key.{Key}
-use Rattle.app_graph.specs.declared.keys.Key.TheVariants.{KSlots, KRound, KGap, KHost, KNodes, KMode, KName, KApp, KPeriod, KDeadline, KTask, KMessage, KNode, KWcet, KBody, KFrom, KTo}
+use Rattle.app_graph.specs.declared.keys.Key.TheVariants.{KSlots, KRound, KGap, KHost, KNodes, KMode, KName, KApp, KPeriod, KDeadline, KTask, KMessage, KNode, KWcet, KBody, KFrom, KTo, KCopies}
 use Rattle.app_graph.specs.declared.raw.RawTask.{RawTask}
 use Rattle.app_graph.specs.declared.raw.RawMessage.{RawMessage}
 use Rattle.app_graph.specs.declared.raw.RawApp.{RawApp}
@@ -82,8 +82,11 @@ has_only ms listed = option_map (λ key. UnknownKey (shown_key key)) (least_unli
 
 -- ---- what a table says under a key
 
+abbrev pub integer_or : ℤ → Members → Key → ℤ
+integer_or other ms key = unwrap_or (option_and_then as_integer (get_member (word key) ms)) other
+
 abbrev pub integer_at : Members → Key → ℤ
-integer_at ms key = unwrap_or (option_and_then as_integer (get_member (word key) ms)) (pos 0)
+integer_at ms key = integer_or (pos 0) ms key
 
 abbrev pub text_or : List ℕ → Members → Key → List ℕ
 text_or other ms key = unwrap_or (option_and_then as_str (get_member (word key) ms)) other
@@ -117,7 +120,7 @@ abbrev pub raw_task : Members → RawTask
 raw_task ms = record { name = text_at ms KName; node = text_at ms KNode; wcet = integer_at ms KWcet; body = text_or (codes "tally") ms KBody }
 
 abbrev pub raw_message : Members → RawMessage
-raw_message ms = record { name = text_at ms KName; from = texts_at ms KFrom; to = texts_at ms KTo; copies = pos 1 }
+raw_message ms = record { name = text_at ms KName; from = texts_at ms KFrom; to = texts_at ms KTo; copies = integer_or (pos 1) ms KCopies }
 
 abbrev pub raw_app : Members → RawApp
 raw_app ms = record {
@@ -152,7 +155,8 @@ task_rules ms = first_of (
 abbrev pub message_rules : Members → Rule FileFault
 message_rules ms = first_of (
     needs ms KName Text ∷ needs ms KFrom TextArray ∷ needs ms KTo TextArray
-    ∷ has_only ms (KName ∷ KFrom ∷ KTo ∷ []) ∷ [])
+    ∷ may_have ms KCopies Integer
+    ∷ has_only ms (KName ∷ KFrom ∷ KTo ∷ KCopies ∷ []) ∷ [])
 
 abbrev pub app_rules : Members → Rule FileFault
 app_rules ms = first_of (

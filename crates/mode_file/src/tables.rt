@@ -10,7 +10,7 @@ ghost use Rattle.mode_file.specs.Walks.{Walks};
 
 use crate::faults::FileFault;
 use crate::unlisted::only;
-use crate::values::{integer_of, tables_of, tables_or_none_of, text_of, text_or_of, texts_of};
+use crate::values::{integer_of, integer_or_of, tables_of, tables_or_none_of, text_of, text_or_of, texts_of};
 use app_graph::{Key, ListOf, Name, RawApp, RawMessage, RawMode, RawSet, RawTask};
 use std::alloc::Global;
 use toml::{Table, Value};
@@ -76,12 +76,17 @@ impl FromTable for RawMessage {
         let name = text_of(table, Key::KName)?;
         let from = texts_of(alloc, table, Key::KFrom)?;
         let to = texts_of(alloc, table, Key::KTo)?;
-        only(alloc, table, &[Key::KName, Key::KFrom, Key::KTo])?;
+        let copies = integer_or_of(table, Key::KCopies, 1)?;
+        only(
+            alloc,
+            table,
+            &[Key::KName, Key::KFrom, Key::KTo, Key::KCopies],
+        )?;
         Ok(RawMessage {
             name: Name::copied(alloc, name.as_bytes())?,
             from,
             to,
-            copies: 1,
+            copies,
         })
     }
 }

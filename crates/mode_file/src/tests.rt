@@ -42,7 +42,7 @@ fn fault_of(alloc: Global, text: &[u8]) -> Result<String, Fail> {
     }
 }
 
-/// A loop of three tasks on three nodes.
+/// A loop of three tasks on three nodes, whose first message has two copies.
 const LOOP: &str = "
 slots = 2
 round = 20
@@ -61,7 +61,7 @@ task = [
     { name = 'act', node = 'n2', wcet = 1 },
 ]
 message = [
-    { name = 'm1', from = ['sense'], to = ['ctrl'] },
+    { name = 'm1', from = ['sense'], to = ['ctrl'], copies = 2 },
     { name = 'm2', from = ['ctrl'], to = ['act'] },
 ]
 ";
@@ -111,7 +111,11 @@ fn app_lines(alloc: Global, app: &App) -> Result<String, Fail> {
         let name = from_utf8(message.name.as_bytes())?;
         let from = message.from.as_slice();
         let to = message.to.as_slice();
-        lines.push_str(format!(in alloc; "{name} {from:?} {to:?} {}\n", message.number)?.as_str())?;
+        lines.push_str(format!(in alloc;
+            "{name} {from:?} {to:?} {} {}\n",
+            message.number, message.copies
+        )?
+        .as_str())?;
     }
     Ok(lines)
 }
@@ -127,7 +131,7 @@ fn loop_modes(rt: HostRuntime) -> Result<(), Fail> {
     for mode in set.modes.as_slice() {
         for app in mode.apps.as_slice() {
             let want =
-                "loop 100 90\nsense 1 2 tally 0\nctrl 0 5 hold 1\nact 2 1 tally 2\nm1 [0] [1] 0\nm2 [1] [2] 1\n";
+                "loop 100 90\nsense 1 2 tally 0\nctrl 0 5 hold 1\nact 2 1 tally 2\nm1 [0] [1] 0 2\nm2 [1] [2] 1 1\n";
             assert_eq!(rt; app_lines(rt.alloc(), app)?.as_str(), want);
         }
         assert_eq!(rt; mode.apps.as_slice().len(), 1);
@@ -341,6 +345,16 @@ fn tasks_and_messages(rt: HostRuntime) -> Result<(), Fail> {
             "",
             "{ name = 'x', from = [], to = [], copies = 1, area = 1 }",
             "unknown key area",
+        ),
+        (
+            "",
+            "{ name = 'x', from = [], to = [], copies = '2', area = 1 }",
+            "wrong kind copies",
+        ),
+        (
+            "",
+            "{ name = 'x', from = [], to = 1, copies = '2' }",
+            "wrong kind to",
         ),
     ] {
         let text = format!(in rt.alloc();

@@ -2,11 +2,11 @@
 
 ghost use Rattle.std.specs.Prelude.{◌≡◌, None, Some, map, option_map, is_some};
 ghost use Rattle.std.specs.List.{list_all};
-ghost use Rattle.toml.specs.Data.{get_member, as_str, as_table};
+ghost use Rattle.toml.specs.Data.{get_member, as_integer, as_str, as_table};
 ghost use Rattle.toml.specs.View.{table_view, view};
 ghost use Rattle.app_graph.specs.Words.{word};
 ghost use Rattle.mode_file.specs.Tables;
-ghost use Rattle.mode_file.specs.Tables.{Integer, Text, TextArray, TableArray, is_of, has, needs, may_have, text_at, text_or, integer_at, texts_at, tables_at, array_items};
+ghost use Rattle.mode_file.specs.Tables.{Integer, Text, TextArray, TableArray, is_of, has, needs, may_have, text_at, text_or, integer_at, integer_or, texts_at, tables_at, array_items};
 ghost use Rattle.mode_file.specs.Walks.{Walks};
 
 use crate::faults::FileFault;
@@ -65,14 +65,33 @@ pub(crate) fn text_or_of<'a>(
     }
 }
 
+fn integer_in(value: &Value, key: Key) -> Result<i64, FileFault>
+    ensures { Walks (λ z. Some z) result
+        (is_of Integer key (view value.now)) (as_integer (view value.now)) }
+{
+    match value.as_integer() {
+        None => Err(FileFault::WrongKind(key)),
+        Some(z) => Ok(z),
+    }
+}
+
 /// The integer that has to stand under the key.
 pub(crate) fn integer_of(table: &Table, key: Key) -> Result<i64, FileFault>
     ensures { Walks (λ z. z) result
         (needs (table_view table.now) key Integer) (integer_at (table_view table.now) key) }
 {
-    match required(table, key)?.as_integer() {
-        None => Err(FileFault::WrongKind(key)),
-        Some(z) => Ok(z),
+    integer_in(required(table, key)?, key)
+}
+
+/// The integer that may stand under the key, or else the other one.
+pub(crate) fn integer_or_of(table: &Table, key: Key, other: i64) -> Result<i64, FileFault>
+    ensures { Walks (λ z. z) result
+        (may_have (table_view table.now) key Integer)
+        (integer_or other (table_view table.now) key) }
+{
+    match value_at(table, key) {
+        None => Ok(other),
+        Some(value) => integer_in(value, key),
     }
 }
 
