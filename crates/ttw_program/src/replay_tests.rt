@@ -1,7 +1,7 @@
 //! Traces of small systems, through the program's own call.
 
 use super::*;
-use crate::tests::{BLINK, LOOP, LOOP_PLAN, PAIR, three_messages};
+use crate::tests::{BLINK, DOUBLE_PLAN, LOOP, LOOP_PLAN, PAIR, loop_with_copies, three_messages};
 use app_graph::Name;
 use std::alloc::Global;
 use std::test::Fail;
@@ -148,6 +148,56 @@ done 16
 fn lost_beacon(rt: HostRuntime) -> Result<(), Fail> {
     let due = (Status::Done, LOST_TRACE);
     assert!(rt; replays(rt.alloc(), of_loop(LOST), &OWN, due)?);
+    Ok(())
+}
+
+/// What the loop does until the second round, where its first message has two copies.
+const DOUBLE_BEGIN: &str = "0 beacon 1 run 2 heard n0 n1 n2
+0 silent m2
+20 off n2 act
+21 void n2 act
+21 start n1 sense
+23 end n1 sense 1
+23 beacon 2 run 2 heard n0 n1 n2
+";
+
+/// Whether the script over the loop with two copies of its first message gives this trace after its begin.
+fn doubles(alloc: Global, script: &str, rest: &str) -> Result<bool, Fail> {
+    let modes = loop_with_copies(alloc, "2")?;
+    let texts = Texts {
+        modes: modes.as_str(),
+        plan: DOUBLE_PLAN,
+        script,
+    };
+    let trace = format!(in alloc; "{DOUBLE_BEGIN}{rest}")?;
+    replays(alloc, texts, &OWN, (Status::Done, trace.as_str()))
+}
+
+/// The first copy is lost to the controller, which takes the second one.
+#[test]
+fn copy_lost(rt: HostRuntime) -> Result<(), Fail> {
+    let rest = "23 send n1 m1 1 taken
+43 beacon 3 run 2 heard n0 n1 n2
+43 send n1 m1 1 taken n0
+63 start n0 ctrl 1
+68 end n0 ctrl 2
+done 12
+";
+    assert!(rt; doubles(rt.alloc(), "go 7\nlose n0\ngo 4\n", rest)?);
+    Ok(())
+}
+
+/// The controller has taken the first copy, so it passes over the second one.
+#[test]
+fn copy_passed_over(rt: HostRuntime) -> Result<(), Fail> {
+    let rest = "23 send n1 m1 1 taken n0
+43 beacon 3 run 2 heard n0 n1 n2
+43 send n1 m1 1 taken
+63 start n0 ctrl 1
+68 end n0 ctrl 2
+done 12
+";
+    assert!(rt; doubles(rt.alloc(), "go 12\n", rest)?);
     Ok(())
 }
 

@@ -1,5 +1,6 @@
 use super::*;
 use std::alloc::Global;
+use std::str::from_utf8;
 use std::test::Fail;
 use ttw_io::{MemFiles, MemSink};
 
@@ -307,6 +308,54 @@ fn check_accepts_and_bad_leaf(rt: HostRuntime) -> Result<(), Fail> {
     Ok(())
 }
 
+/// The control loop, where its first message has this many copies.
+pub(crate) fn loop_with_copies(alloc: Global, copies: &str) -> Result<String, Fail> {
+    let line = format!(in alloc; "to = [\"ctrl\"]\ncopies = {copies}")?;
+    Ok(LOOP.replace(alloc, "to = [\"ctrl\"]", line.as_str())?)
+}
+
+/// A plan of the control loop with two copies of its first message.
+pub(crate) const DOUBLE_PLAN: &str =
+    "ttw 1\nmode run\nrefute 1\nshort\nrefute 2\nbranch\ncycle 19 4 8\nbranch\nbranch\ncycle 23 6 13\ncycle 23 2 22 11 13\ncycle 23 22 11 13\ncycle 24 16 18 8 19\ncycle 24 16 18 5\ncycle 24 14 12 19\nbranch\nbranch\ncycle 23 6 13\ncycle 23 22 11 13\ncycle 23 0 22 11 13\ncycle 23 22 11 13\ncycle 24 16 18 5\ncycle 24 16 18 5 0\nbranch\ncycle 22 9 5\ncycle 20 9 5\ncycle 20 9 5 0\nschedule 3\nstart 0 23 43\ntask sense 21\ntask ctrl 63\ntask act 120\nmessage m1 23 63\nmessage m2 68 120\ntable 1 m2\ntable 2 m1\ntable 3 m1\nend\n";
+
+#[test]
+fn double_plan(rt: HostRuntime) -> Result<(), Fail> {
+    let alloc = rt.alloc();
+    let file = loop_with_copies(alloc, "2")?;
+    let text = without_cycles(alloc, DOUBLE_PLAN.as_bytes())?;
+    let plan = from_utf8(text.as_slice())?;
+    assert!(rt; plans(alloc, file.as_str(), "31", (Status::Done, plan))?);
+    let exceeded = (Status::Budget, "budget: mode run at 3 rounds\n");
+    assert!(rt; plans(alloc, file.as_str(), "30", exceeded)?);
+    let accepted = (Status::Done, "accepted\nmode run rounds 3\n");
+    assert!(rt; checks(alloc, file.as_str(), DOUBLE_PLAN, accepted)?);
+    Ok(())
+}
+
+#[test]
+fn copies_out_of_range(rt: HostRuntime) -> Result<(), Fail> {
+    let alloc = rt.alloc();
+    for (copies, line) in [
+        ("0", "modes: out of range copies\n"),
+        ("5", "modes: out of range copies\n"),
+        ("\"2\"", "modes: wrong kind copies\n"),
+    ] {
+        let file = loop_with_copies(alloc, copies)?;
+        assert!(rt; plans(alloc, file.as_str(), "31", (Status::ModeFile, line))?);
+    }
+    Ok(())
+}
+
+#[test]
+fn missing_copy(rt: HostRuntime) -> Result<(), Fail> {
+    let alloc = rt.alloc();
+    let file = loop_with_copies(alloc, "2")?;
+    let plan = DOUBLE_PLAN.replace(alloc, "table 3 m1", "table 3")?;
+    let broken = (Status::Plan, "plan: schedule run S7\n");
+    assert!(rt; checks(alloc, file.as_str(), plan.as_str(), broken)?);
+    Ok(())
+}
+
 #[test]
 fn cut_plans(rt: HostRuntime) -> Result<(), Fail> {
     let alloc = rt.alloc();
@@ -397,9 +446,9 @@ fn tables(
     Ok(status == wanted.0 && text.as_slice() == wanted.1.as_bytes())
 }
 
-/// The image of the node that sends `m1`, 81 bytes in lines of 32.
+/// The image of the node that sends `m1`, 82 bytes in lines of 32.
 const SENSOR_IMAGE: &str =
-    "0101010000000000000064000100020001000000000000000000640000000000\n0000150000000000000002000100000101000000000000000000000000000000\n0000000017010100000000000000000000\n";
+    "0201010000000000000064000100020001000000000000000000640000000000\n0000150000000000000002000100000101000000000000000000000000000000\n000000001701010000000000000000000001\n";
 
 #[test]
 fn node_image(rt: HostRuntime) -> Result<(), Fail> {
