@@ -10,7 +10,9 @@ ghost use Rattle.mode_file.specs.Walks.{Walks};
 
 use crate::faults::FileFault;
 use crate::unlisted::only;
-use crate::values::{integer_of, integer_or_of, tables_of, tables_or_none_of, text_of, text_or_of, texts_of};
+use crate::values::{
+    integer_of, integer_or_of, tables_of, tables_or_none_of, text_of, text_or_of, texts_of,
+};
 use app_graph::{Key, ListOf, Name, RawApp, RawMessage, RawMode, RawSet, RawTask};
 use std::alloc::Global;
 use toml::{Table, Value};
