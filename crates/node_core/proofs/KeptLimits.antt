@@ -10,7 +10,7 @@ use Rattle.node_core.specs.declared.packet.Packet.{Packet}
 use Rattle.node_core.specs.Lookup.{mode_at, mode_of_round, is_taken}
 use Rattle.node_core.specs.Registers.{RegistersSeen, no_registers, filled, begun, ended_with}
 use Rattle.node_core.specs.Running.{RunningNode, mode_of}
-use Rattle.node_core.specs.Rules.{at_round, round_in, first_heard, heard, coasted, passed, turned, message_of_slot, registers_with, starts, end_answer}
+use Rattle.node_core.specs.Rules.{at_round, round_in, first_heard, heard, coasted, passed, turned, copy_of_slot, takes_copy, message_of_slot, registers_with, starts, end_answer}
 use Rattle.node_core.specs.Conditions.{MayHear, MayMiss, MayPass, MayReceive}
 use Rattle.node_core.specs.Fits.{TableFits, SpotFits, InsFit, HasRoom, NodeFits}
 use Rattle.node_core.specs.Laws.{KeptByRules}
@@ -101,13 +101,13 @@ passed_fits n ticks fits may = moved n ticks _ (int_lt (n.tick +ℤ ticks) (mode
 with_registers : (n : RunningNode) (g : RegistersSeen) → NodeFits n → InsFit (mode_of n).messages g.ins → HasRoom g → NodeFits (record n { registers = g })
 with_registers n g fits ins room = record { table = fits.table; spot = fits.spot; ins = ins; room = room }
 
-taken_or_not : (n : RunningNode) (slot : ℕ) (packet : Packet) (m : OwnMessage) (taken : Bool) → NodeFits n → MayReceive n slot packet → message_of_slot n slot ≡ Some m → NodeFits (record n { registers = cond taken (filled m packet.values n.registers) n.registers })
+pub taken_or_not : (n : RunningNode) (slot : ℕ) (packet : Packet) (m : OwnMessage) (taken : Bool) → NodeFits n → MayReceive n slot packet → message_of_slot n slot ≡ Some m → NodeFits (record n { registers = cond taken (filled m packet.values n.registers) n.registers })
 taken_or_not n slot packet m true fits may e = with_registers n (filled m packet.values n.registers) fits (received_fits n slot packet m fits may e) (filled_room m packet.values n.registers fits.room)
 taken_or_not n slot packet m false fits may e = fits
 
-received_by : (n : RunningNode) (slot : ℕ) (packet : Packet) (o : Option OwnMessage) → message_of_slot n slot ≡ o → NodeFits n → MayReceive n slot packet → NodeFits (record n { registers = registers_with o packet n.registers })
+received_by : (n : RunningNode) (slot : ℕ) (packet : Packet) (o : Option OwnMessage) → message_of_slot n slot ≡ o → NodeFits n → MayReceive n slot packet → NodeFits (record n { registers = registers_with (copy_of_slot n slot) o packet n.registers })
 received_by n slot packet None e fits may = fits
-received_by n slot packet (Some m) e fits may = taken_or_not n slot packet m (is_taken m) fits may e
+received_by n slot packet (Some m) e fits may = taken_or_not n slot packet m (takes_copy n.registers (copy_of_slot n slot) m) fits may e
 
 started_or_not : (n : RunningNode) (task : ℕ) (value : ℤ) (performed : Bool) → NodeFits n → NodeFits (cond performed (record n { registers = begun task value (mode_of n).messages n.registers }) n)
 started_or_not n task value true fits = with_registers n (begun task value (mode_of n).messages n.registers) fits (taken_fit (mode_of n).messages task n.registers.ins (mode_of n).messages fits.ins) (begun_room task value (mode_of n).messages n.registers fits.room)

@@ -18,6 +18,7 @@ use Rattle.sched_model.specs.TimeLimits.{IsTime}
 use Rattle.sched_model.proofs.Lists.{get_or-below, get_or-map_below, length-below}
 use Rattle.sched_model.proofs.TaskNumbers.{few_modes}
 use Rattle.runtime_model.specs.NodeTables.{PlainOwnMessage, PlainOwnRound, PlainOwnTask, is_own, mode_tables, own_messages, own_rounds, own_slots, own_tasks, part_of}
+use Rattle.runtime_model.specs.Copies.{copy_at}
 use Rattle.runtime_model.specs.Placement.{release}
 use Rattle.runtime_model.specs.Plans.{AreSchedules, Plan, first_round, no_schedule, node_of, place_from, plan_of, plans_of}
 use Rattle.runtime_model.specs.System.{no_plan}
@@ -110,7 +111,7 @@ unequal a b h = grind (arith, nat_tests, h)
 
 module _ (p : Plan) (v j : ℕ) where
   abbrev slot_of : ℕ → ℕ → OwnSlot
-  slot_of s number = record { slot = s; message = number; release = release p j (place_from 0 p.mode.messages number) }
+  slot_of s number = record { slot = s; message = number; release = release p j (place_from 0 p.mode.messages number); copy = copy_at p j (place_from 0 p.mode.messages number) }
 
   abbrev own : ℕ → Bool
   own number = is_own p v (place_from 0 p.mode.messages number)
@@ -127,7 +128,7 @@ module _ (p : Plan) (v j : ℕ) where
   passed true x s number rest differ = ap (λ (c : Bool). cond c (Some (slot_of s number)) (slot_found x rest)) (unequal x s (λ e. differ (sym e)))
   passed false x s number rest differ = refl
 
-  slots_begin : (b : Bool) (s number : ℕ) (table : List ℕ) → map typed_slot (cond b (record { slot = s; message = number; release = release p j (place_from 0 p.mode.messages number) } ∷ []) [] ++ own_slots p v j (suc s) table) ≡ cond b (slot_of s number ∷ []) [] ++ slots (suc s) table
+  slots_begin : (b : Bool) (s number : ℕ) (table : List ℕ) → map typed_slot (cond b (record { slot = s; message = number; release = release p j (place_from 0 p.mode.messages number); copy = copy_at p j (place_from 0 p.mode.messages number) } ∷ []) [] ++ own_slots p v j (suc s) table) ≡ cond b (slot_of s number ∷ []) [] ++ slots (suc s) table
   slots_begin true s number table = refl
   slots_begin false s number table = refl
 

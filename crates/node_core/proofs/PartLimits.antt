@@ -247,7 +247,7 @@ module _ (set : ModeSet) (i : ℕ) (keeps : KeepsRules set) (l : i < length set.
       let apps = (mode_at set i).apps in
       let rows = rows_of apps in
       subst (λ (y : ModeTable). input_count x y.messages ≤ 64)
-      (mode_same set i keeps l v s right first (pos (hyper m)) (tasks_kept rows s.tasks v) (messages_kept rows v apps) (rounds_kept (message_rows rows v apps) s) refl refl refl refl)
+      (mode_same set i keeps l v s right first (pos (hyper m)) (tasks_kept rows s.tasks v) (messages_kept rows v apps) (map typed_round (own_rounds p v)) refl refl refl refl)
       (inputs_few set i keeps l rows v x)
 
   -- ---- rounds

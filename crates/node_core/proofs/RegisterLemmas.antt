@@ -1,5 +1,11 @@
 -- Lists of registers
-use Rattle.std.proofs.Common.{◌≡◌, ℕ, zero, suc, ◌+◌, ◌-◌, ◌≤◌, sym, Bool, true, cond, List, [], ◌∷◌, ◌++◌, map, fold, replicate, Option, Some, None, ℤ, refl, ap, ◌∙◌, length, ◌<◌, drop, slice_set, arith}
+use Rattle.std.proofs.Common.{◌≡◌, ℕ, zero, suc, ◌+◌, ◌-◌, ◌≤◌, sym, Bool, true, false, ◌&&◌, ◌⊎◌, inl, inr, Bor, cond, List, [], ◌∷◌, ◌++◌, map, fold, replicate, Option, Some, None, ℤ, refl, ap, ◌∙◌, length, ◌<◌, drop, slice_set, arith}
+use Rattle.std.specs.Prelude.{is_some}
+use Rattle.std.specs.List.{list_all}
+use Rattle.std.specs.Option.{option_copied}
+use Rattle.std.proofs.lemmas.Bool.{cases_lt}
+use Rattle.std.proofs.lemmas.List.Folds.{list_all-append}
+use Rattle.sched_model.specs.Numbers.{below}
 use Rattle.std.proofs.lemmas.List.{length-replicate, length-set, drop-set-lt, drop-drop, drop-replicate, replicate-append-replicate}
 use Rattle.node_tables.specs.declared.tables.OwnMessage.{OwnMessage}
 use Rattle.node_core.specs.Lookup.{consumer_place}
@@ -10,6 +16,37 @@ use Rattle.node_core.specs.Fits.{HasRoom}
 pub map-replicate_full : (values : List ℤ) (n : ℕ) → map (λ f. cond f (Some values) None) (replicate n true) ≡ replicate n (Some values)
 map-replicate_full values zero = refl
 map-replicate_full values (suc n) = ap (λ rest. Some values ∷ rest) (map-replicate_full values n)
+
+-- whether a register is full, read through a reference
+pub copied_some : {X : Type 0} (o : Option (Bor X)) → is_some (option_copied o) ≡ is_some o
+copied_some None = refl
+copied_some (Some x) = refl
+
+-- the first numbers pass a test where those before the last one and the last one do
+pub all_below_more : (t : ℕ → Bool) (n : ℕ) → list_all t (below n) ≡ true → t n ≡ true → list_all t (below (n + 1)) ≡ true
+all_below_more t n all last =
+    ap (λ m. list_all t (below m)) (let next : n + 1 ≡ suc n = omega arith in next)
+    ∙ list_all-append t (below n) (n ∷ [])
+    ∙ ap (λ b. b && (t n && true)) all
+    ∙ ap (λ b. b && true) last
+
+-- they do not where one of them does not
+pub one_fails : (t : ℕ → Bool) (n k : ℕ) → k < n → t k ≡ false → list_all t (below n) ≡ false
+one_fails t zero k l e = absurd (omega (arith, l))
+one_fails t (suc n) k l e = list_all-append t (below n) (n ∷ []) ∙ by_place (cases_lt k n) (λ before. one_fails t n k before e)
+  where
+    off : (b c : Bool) → b ≡ false → (b && c) ≡ false
+    off true c h = absurd cc
+    off false c h = refl
+
+    last_off : (b c : Bool) → c ≡ false → (b && (c && true)) ≡ false
+    last_off true true h = absurd cc
+    last_off true false h = refl
+    last_off false c h = refl
+
+    by_place : (k < n) ⊎ (n ≤ k) → (k < n → list_all t (below n) ≡ false) → (list_all t (below n) && (t n && true)) ≡ false
+    by_place (inl before) earlier = off (list_all t (below n)) (t n && true) (earlier before)
+    by_place (inr at) earlier = last_off (list_all t (below n)) (t n) (ap t (let same : n ≡ k = omega (arith, l, at) in same) ∙ e)
 
 -- so are registers with these values and flags
 pub all_full : (values vs : List ℤ) (full : List Bool) (n : ℕ) → full ≡ replicate n true → vs ≡ values → map (λ f. cond f (Some vs) None) full ≡ replicate n (Some values)

@@ -13,7 +13,7 @@ use Rattle.node_core.specs.Lookup.{consumer_place, own_message, own_slot}
 use Rattle.node_core.specs.Registers.{InRow, RegistersSeen, row_of, register_in, register_of, emptied_at, emptied_for, filled, begun, out_of, ended_with}
 use Rattle.node_core.specs.Running.{RunningNode, mode_of, round_of}
 use Rattle.node_core.specs.Fits.{IsBefore, MessageFits, NodeFits}
-use Rattle.node_core.specs.Rules.{message_of_slot, is_received, takes, registers_with, received, starts, started, end_answer}
+use Rattle.node_core.specs.Rules.{copy_of_slot, message_of_slot, is_received, takes, registers_with, received, starts, started, end_answer}
 use Rattle.node_core.specs.Laws.{consumes, RegistersByRules}
 use Rattle.node_core.proofs.NodeLemmas.{mode_fits}
 use Rattle.node_core.proofs.SearchLemmas.{later, rest_ascends, each_is_found}
@@ -167,8 +167,8 @@ filled_each all ins m values b (x ∷ messages) l found known = (filled_register
 -- the registers of a node after a packet
 received_registers : (n : RunningNode) (slot : ℕ) (packet : Packet) (m : OwnMessage) → message_of_slot n slot ≡ Some m → takes n slot ≡ true → (received n slot packet).registers ≡ filled m packet.values n.registers
 received_registers n slot packet m e taken =
-    ap (λ (o : Option OwnMessage). registers_with o packet n.registers) e
-    ∙ ap (λ (t : Bool). cond t (filled m packet.values n.registers) n.registers) (sym (ap is_received e) ∙ taken)
+    ap (λ (o : Option OwnMessage). registers_with (copy_of_slot n slot) o packet n.registers) e
+    ∙ ap (λ (t : Bool). cond t (filled m packet.values n.registers) n.registers) (sym (ap (is_received n.registers (copy_of_slot n slot)) e) ∙ taken)
 
 receiving : (n : RunningNode) (slot : ℕ) (packet : Packet) (m : OwnMessage) → NodeFits n → message_of_slot n slot ≡ Some m → takes n slot ≡ true
     → (b : ℕ) → All (λ x. register_of (received n slot packet).registers.ins b x ≡ cond (nat_eq x.number m.number && consumes b x) (Some packet.values) (register_of n.registers.ins b x)) (mode_of n).messages

@@ -2,7 +2,7 @@
 use Rattle.std.proofs.Common.{refl}
 use Rattle.node_core.specs.Registers.{no_outs, no_ins}
 use Rattle.sched_model.specs.PlainMode.{hyper}
-use Rattle.node_core.specs.Rows.{TablesAreParts, Misses, SenseRuns, ControlSends, TakesAPacket, ActRuns, OtherModeEmpties, DrainEmpties, DrainPlaces, FourProducers}
+use Rattle.node_core.specs.Rows.{OneCopyIsTaken, AllConsumersCount, TablesAreParts, Misses, SenseRuns, ControlSends, TakesAPacket, ActRuns, OtherModeEmpties, DrainEmpties, DrainPlaces, FourProducers}
 
 pub tables_are_parts : TablesAreParts
 unfolding hyper
@@ -40,3 +40,11 @@ drain_places = (refl, refl)
 pub four_producers : FourProducers
 unfolding no_outs no_ins
 four_producers = (refl, refl, refl)
+
+pub one_copy_is_taken : OneCopyIsTaken
+unfolding no_outs no_ins
+one_copy_is_taken = (refl, refl, refl, refl, refl, refl)
+
+pub all_consumers_count : AllConsumersCount
+unfolding no_outs no_ins
+all_consumers_count = (refl, refl, refl)

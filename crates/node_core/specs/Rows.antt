@@ -9,12 +9,14 @@ use Rattle.runtime_model.specs.Plans.{plans_of}
 use Rattle.node_tables.specs.declared.tables.NodeTable.{NodeTable}
 use Rattle.node_tables.specs.declared.tables.ModeTable.{ModeTable}
 use Rattle.node_tables.specs.declared.tables.OwnTask.{OwnTask}
+use Rattle.node_tables.specs.declared.tables.OwnMessage.{OwnMessage}
 use Rattle.node_tables.specs.Parts.{typed_table}
 use Rattle.node_tables.specs.TestPlans.{loop_mode, loop_schedule, idle_schedule, set_with}
 use Rattle.node_tables.specs.TestPlans as plans_of_tests
-use Rattle.node_core.specs.Registers.{no_registers}
+use Rattle.node_core.specs.declared.packet.Packet.{Packet}
+use Rattle.node_core.specs.Registers.{RegistersSeen, begun, filled, no_registers, row_of}
 use Rattle.node_core.specs.Running.{RunningNode}
-use Rattle.node_core.specs.Rules.{announced, coasted, end_answer, ended, first_heard, heard, inputs_now, next_start, passed, received, sent, start_answer, started, takes}
+use Rattle.node_core.specs.Rules.{announced, coasted, end_answer, ended, first_heard, heard, inputs_now, next_start, passed, received, registers_with, sent, start_answer, started, takes, takes_copy}
 
 -- ---- the tables: rounds start at 0 and 23; `m2` has its slot in the first one, for a release one period before, and `m1` in the second one
 
@@ -24,7 +26,7 @@ sense_mode = record {
   first_round = 1;
   tasks = record { number = 0; period = pos 100; offset = pos 21; wcet = pos 2 } ∷ [];
   messages = record { number = 0; role = 1; producers = 0 ∷ []; consumers = [] } ∷ [];
-  rounds = record { start = pos 0; slots = [] } ∷ record { start = pos 23; slots = record { slot = 1; message = 0; release = pos 0 } ∷ [] } ∷ [];
+  rounds = record { start = pos 0; slots = [] } ∷ record { start = pos 23; slots = record { slot = 1; message = 0; release = pos 0; copy = 1 } ∷ [] } ∷ [];
 }
 
 abbrev pub control_mode : ModeTable
@@ -33,7 +35,7 @@ control_mode = record {
   first_round = 1;
   tasks = record { number = 1; period = pos 100; offset = pos 43; wcet = pos 5 } ∷ [];
   messages = record { number = 0; role = 2; producers = 0 ∷ []; consumers = 1 ∷ [] } ∷ record { number = 1; role = 1; producers = 1 ∷ []; consumers = [] } ∷ [];
-  rounds = record { start = pos 0; slots = record { slot = 1; message = 1; release = negsuc 99 } ∷ [] } ∷ record { start = pos 23; slots = record { slot = 1; message = 0; release = pos 0 } ∷ [] } ∷ [];
+  rounds = record { start = pos 0; slots = record { slot = 1; message = 1; release = negsuc 99; copy = 1 } ∷ [] } ∷ record { start = pos 23; slots = record { slot = 1; message = 0; release = pos 0; copy = 1 } ∷ [] } ∷ [];
 }
 
 abbrev pub act_mode : ModeTable
@@ -42,7 +44,7 @@ act_mode = record {
   first_round = 1;
   tasks = record { number = 2; period = pos 100; offset = pos 120; wcet = pos 1 } ∷ [];
   messages = record { number = 1; role = 2; producers = 1 ∷ []; consumers = 2 ∷ [] } ∷ [];
-  rounds = record { start = pos 0; slots = record { slot = 1; message = 1; release = negsuc 99 } ∷ [] } ∷ record { start = pos 23; slots = [] } ∷ [];
+  rounds = record { start = pos 0; slots = record { slot = 1; message = 1; release = negsuc 99; copy = 1 } ∷ [] } ∷ record { start = pos 23; slots = [] } ∷ [];
 }
 
 -- a mode of one round, the third of the file, in which a node does nothing
@@ -194,7 +196,7 @@ four_table = record {
     first_round = 1;
     tasks = producer 0 1 ∷ producer 1 3 ∷ producer 2 5 ∷ producer 1023 7 ∷ [];
     messages = record { number = 511; role = 1; producers = 1023 ∷ 2 ∷ 1 ∷ 0 ∷ []; consumers = [] } ∷ [];
-    rounds = record { start = pos 0; slots = [] } ∷ record { start = pos 20; slots = record { slot = 32; message = 511; release = pos 0 } ∷ [] } ∷ [];
+    rounds = record { start = pos 0; slots = [] } ∷ record { start = pos 20; slots = record { slot = 32; message = 511; release = pos 0; copy = 1 } ∷ [] } ∷ [];
   } ∷ [];
 }
 
@@ -211,3 +213,62 @@ FourProducers =
     ((sent (heard (passed three_ran (pos 14)) (opening_beacon 2)) 32 ≡ None)
     × (sent (heard (passed (ran 1023 (pos 40) three_ran) (pos 12)) (opening_beacon 2)) 32 ≡ Some (record { message = 511; values = pos 40 ∷ pos 30 ∷ pos 20 ∷ pos 10 ∷ [] }))
     × (sent (heard (passed (ran 1023 (pos 40) three_ran) (pos 12)) (opening_beacon 2)) 31 ≡ None))
+
+-- ---- two copies of `m1`, in the rounds at 23 and 43
+
+-- the node of `ctrl`, which starts at 63
+abbrev pub double_table : NodeTable
+double_table = record {
+  node = 0;
+  modes = record {
+    hyper = pos 100;
+    first_round = 1;
+    tasks = record { number = 1; period = pos 100; offset = pos 63; wcet = pos 5 } ∷ [];
+    messages = record { number = 0; role = 2; producers = 0 ∷ []; consumers = 1 ∷ [] } ∷ record { number = 1; role = 1; producers = 1 ∷ []; consumers = [] } ∷ [];
+    rounds = record { start = pos 0; slots = record { slot = 1; message = 1; release = negsuc 99; copy = 1 } ∷ [] }
+        ∷ record { start = pos 23; slots = record { slot = 1; message = 0; release = pos 0; copy = 1 } ∷ [] }
+        ∷ record { start = pos 43; slots = record { slot = 1; message = 0; release = pos 0; copy = 2 } ∷ [] } ∷ [];
+  } ∷ [];
+}
+
+-- the packet of `m1` with this value
+abbrev pub sample : ℤ → Packet
+sample value = record { message = 0; values = value ∷ [] }
+
+-- the node in the round of the first copy, after that copy, and in the round of the second copy
+abbrev pub at_first_copy : RunningNode
+at_first_copy = heard (passed (first_heard double_table (opening_beacon 1)) (pos 23)) (opening_beacon 2)
+
+abbrev pub with_first_copy : RunningNode
+with_first_copy = received at_first_copy 1 (sample (pos 7))
+
+abbrev pub at_second_copy : RunningNode → RunningNode
+at_second_copy n = heard (passed n (pos 20)) (opening_beacon 3)
+
+-- a node that has the first copy passes over the second one, and one that has not takes it; a first copy is always taken
+abbrev pub OneCopyIsTaken : Type 0
+OneCopyIsTaken =
+    ((takes at_first_copy 1 ≡ true)
+    × (takes with_first_copy 1 ≡ true)
+    × (takes (at_second_copy with_first_copy) 1 ≡ false)
+    × ((received (at_second_copy with_first_copy) 1 (sample (pos 8))).registers ≡ with_first_copy.registers)
+    × (takes (at_second_copy at_first_copy) 1 ≡ true)
+    × (start_answer (passed (received (at_second_copy at_first_copy) 1 (sample (pos 8))) (pos 20)) 1 ≡ Some (Some (pos 8) ∷ [])))
+
+-- a message for two tasks of the node
+abbrev pub shared_message : OwnMessage
+shared_message = record { number = 0; role = 2; producers = 0 ∷ []; consumers = 1 ∷ 4 ∷ [] }
+
+-- its registers after a copy, and after a start of one of the tasks
+abbrev pub both_full : RegistersSeen
+both_full = filled shared_message (pos 7 ∷ []) no_registers
+
+abbrev pub one_full : RegistersSeen
+one_full = begun 4 (pos 1) (shared_message ∷ []) both_full
+
+-- a later copy is passed over only where both are full; where it is taken it fills both
+abbrev pub AllConsumersCount : Type 0
+AllConsumersCount =
+    ((takes_copy both_full 2 shared_message ≡ false)
+    × (takes_copy one_full 2 shared_message ≡ true)
+    × (row_of (registers_with 2 (Some shared_message) (sample (pos 8)) one_full).ins 0 ≡ Some (pos 8 ∷ []) ∷ Some (pos 8 ∷ []) ∷ []))

@@ -5,7 +5,6 @@ ghost use Rattle.std.specs.List.{AllPairs, position};
 ghost use Rattle.std.specs.Option.{option_copied};
 ghost use Rattle.node_core.specs.Fits.{IsBefore, IsTaskBefore, SpotFits, TableFits};
 ghost use Rattle.node_core.specs.Lookup.{consumer_place, has_round, mode_at, mode_of_round, own_message, own_slot, own_task, round_at, sends};
-ghost use Rattle.node_core.specs.Rules.{message_in};
 
 use node_tables::{ModeTable, NodeTable, OwnMessage, OwnRound, OwnSlot, OwnTask};
 use tick_num::Time;
@@ -93,18 +92,6 @@ pub(crate) fn own_message(mode: &ModeTable, number: u32) -> Option<&OwnMessage>
     match messages.binary_search_by_key(&number, |message| message.number) {
         Ok(place) => Some(&messages[place]),
         Err(_) => None,
-    }
-}
-
-/// The own message of a slot of a round, from 1.
-pub(crate) fn message_of_slot(mode: &ModeTable, round: usize, slot: u8) -> Option<&OwnMessage>
-    requires round { round < length mode.now.rounds }
-    requires ascending { AllPairs IsBefore mode.now.messages }
-    ensures { option_copied result ≡ message_in mode.now (own_slot (round_at mode.now round) slot) }
-{
-    match own_slot(round_at(mode, round), slot) {
-        Some(own) => own_message(mode, own.message),
-        None => None,
     }
 }
 

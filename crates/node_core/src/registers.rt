@@ -1,12 +1,13 @@
 //! The registers of a node, and its run in progress.
 
-ghost use Rattle.std.specs.Prelude.{◌≡◌, ◌+◌, ◌<◌, ◌≤◌, ◌++◌, [], All, IfOk, None, false, Option, Some, drop, fold, length, replicate, slice_index_or, slice_set};
-ghost use Rattle.std.specs.List.{AllPairs};
+ghost use Rattle.std.specs.Prelude.{◌≡◌, ◌+◌, ◌<◌, ◌≤◌, ◌++◌, [], All, IfOk, None, cond, false, Option, Some, drop, fold, is_some, length, replicate, slice_index_or, slice_set};
+ghost use Rattle.std.specs.List.{AllPairs, list_all};
 ghost use Rattle.std.specs.Option.{option_copied};
+ghost use Rattle.sched_model.specs.Numbers.{below};
 ghost use Rattle.runtime_model.specs.Inputs.{given};
 ghost use Rattle.node_core.specs.Fits.{IsBefore, MessageFits};
-ghost use Rattle.node_core.specs.Registers.{emptied_for, ended_with, filled, inputs_from, inputs_of, no_ins, no_outs, no_registers, out_of, value_at_end, values_of};
-ghost use Rattle.node_core.specs.Rules.{packet_from};
+ghost use Rattle.node_core.specs.Registers.{all_full, emptied_for, ended_with, filled, inputs_from, inputs_of, no_ins, no_outs, no_registers, out_of, value_at_end, values_of};
+ghost use Rattle.node_core.specs.Rules.{packet_from, takes_copy};
 
 use crate::lookup::{consumer_place, sends};
 use crate::packet::{Inputs, Packet, Values};
@@ -84,6 +85,18 @@ impl InRow {
             Some(true) => Some(self.values.as_slice()),
             Some(false) | None => None,
         }
+    }
+
+    /// Whether the registers of the first consumers, as many as these, are full.
+    fn is_full(&self, count: usize) -> bool
+        ensures { result ≡ list_all (λ c. is_some (slice_index_or self.now c None)) (below count) }
+    {
+        for place in 0..count {
+            if self.get(place).is_none() {
+                return false;
+            }
+        }
+        true
     }
 
     /// Adds the values of the register at a place, or so many absent ones, at the end of other inputs.
@@ -254,8 +267,16 @@ impl Registers {
         }
     }
 
+    /// Whether the in registers of all consumers of a message are full.
+    pub(crate) fn is_full(&self, message: &OwnMessage) -> bool
+        requires { message.now.number < 512 }
+        ensures { result ≡ all_full self.now.ins message.now }
+    {
+        self.ins[message.number as usize].is_full(message.consumers.as_slice().len())
+    }
+
     /// Fills the in registers of the consumers of a message.
-    pub(crate) fn fill(&mut self, message: &OwnMessage, values: &Values)
+    fn fill(&mut self, message: &OwnMessage, values: &Values)
         requires number { message.now.number < 512 }
         requires few { length message.now.consumers ≤ 16 }
         ensures { self.new ≡ filled message.now values.now self.old }
@@ -263,6 +284,26 @@ impl Registers {
         let count = message.consumers.as_slice().len();
         let row = &mut self.ins[message.number as usize];
         row.fill(count, values);
+    }
+
+    /// Takes the values of a packet with this copy of a message, where a task of the node consumes it. A copy after
+    /// the first one is passed over where the in registers of all consumers are full.
+    pub(crate) fn receive(&mut self, message: &OwnMessage, copy: u8, values: &Values) -> bool
+        requires number { message.now.number < 512 }
+        requires few { length message.now.consumers ≤ 16 }
+
+        ensures taken { result ≡ takes_copy self.old copy message.now }
+        ensures registers { self.new
+            ≡ cond (takes_copy self.old copy message.now) (filled message.now values.now self.old) self.old }
+    {
+        if message.consumers.as_slice().is_empty() {
+            return false;
+        }
+        if copy > 1 && self.is_full(message) {
+            return false;
+        }
+        self.fill(message, values);
+        true
     }
 
     /// Takes the in register of a task for a message: its inputs go to the end of others, and it is empty.

@@ -1,6 +1,6 @@
 //! Worked rows: what nodes of a loop of three tasks do, computed from the rules alone.
 
-ghost use Rattle.node_core.specs.Rows.{ActRuns, ControlSends, DrainEmpties, DrainPlaces, FourProducers, Misses, OtherModeEmpties, SenseRuns, TablesAreParts, TakesAPacket};
+ghost use Rattle.node_core.specs.Rows.{ActRuns, AllConsumersCount, ControlSends, DrainEmpties, DrainPlaces, FourProducers, Misses, OneCopyIsTaken, OtherModeEmpties, SenseRuns, TablesAreParts, TakesAPacket};
 
 /// The tables of the rows are what their nodes keep of right plans.
 pub fn tables_are_parts()
@@ -38,4 +38,10 @@ pub fn draining_placed()
 /// A packet has the values of all four producers of a message, or is not sent.
 pub fn four_producers()
     ensures { FourProducers }
+{}
+
+/// Of two copies of a window one is taken, and all consumers on the node count.
+pub fn copies_taken()
+    ensures one { OneCopyIsTaken }
+    ensures consumers { AllConsumersCount }
 {}

@@ -10,7 +10,7 @@ ghost use Rattle.node_core.specs.Rules.{announced, coasted, end_answer, ended, h
 ghost use Rattle.node_core.specs.Running.{mode_of};
 ghost use Rattle.task_body.specs.Body.{answer_of, fired};
 
-use crate::lookup::{message_of_slot, mode_at, own_message, own_slot, own_task, round_at, spot_of};
+use crate::lookup::{mode_at, own_message, own_slot, own_task, round_at, spot_of};
 use crate::packet::{Inputs, Packet};
 use crate::registers::Registers;
 use beacon_codec::Beacon;
@@ -162,21 +162,22 @@ impl Running {
         self.registers.packet_of(message)
     }
 
-    /// Takes the packet of a slot, where a task of the node consumes it.
+    /// Takes the packet of a slot, where a task of the node consumes it. A copy after the first one is passed over
+    /// where the in registers of all consumers are full.
     pub(crate) fn receive(&mut self, slot: u8, packet: &Packet) -> bool
         requires { MayReceive self.old slot packet.now }
+
         ensures state { self.new ≡ received self.old slot packet.now }
         ensures taken { result ≡ takes self.old slot }
     {
         let mode = mode_at(&self.table, self.mode);
-        let Some(message) = message_of_slot(mode, self.round, slot) else {
+        let Some(own) = own_slot(round_at(mode, self.round), slot) else {
             return false;
         };
-        if message.consumers.as_slice().is_empty() {
+        let Some(message) = own_message(mode, own.message) else {
             return false;
-        }
-        self.registers.fill(message, &packet.values);
-        true
+        };
+        self.registers.receive(message, own.copy, &packet.values)
     }
 
     /// Whether the start of a task at the node's tick is placed.

@@ -161,7 +161,9 @@ impl Synced {
         self.kept.slot(slot)
     }
 
-    /// Takes the packet that came in the slot, and answers whether a task of the node consumes its message.
+    /// Takes the packet that came in the slot, and answers whether it did. It does not exactly where no task of the node
+    /// consumes the packet's message, or where the slot's copy is 2 or more and the in registers of all the node's
+    /// consumers of the message are full.
     pub fn receive(&mut self, slot: u8, packet: &Packet) -> bool
         requires { MayReceive self.old slot packet.now }
         ensures state { self.new ≡ received self.old slot packet.now }

@@ -60,6 +60,7 @@ fn sense_table(alloc: Global) -> Result<NodeTable, AllocError>
         slot: 1,
         message: 0,
         release: 0,
+        copy: 1,
     };
     let second = OwnRound {
         start: 23,
@@ -81,12 +82,14 @@ fn sense_table(alloc: Global) -> Result<NodeTable, AllocError>
 
 /// The slots of a round: one, for this message and release.
 fn slot_of(alloc: Global, message: u32, release: i64) -> Result<ListOf<OwnSlot>, AllocError>
-    ensures { IfOk result (λ list. list ≡ record { slot = 1; message = message; release = release } ∷ []) }
+    ensures { IfOk result (λ list. list
+        ≡ record { slot = 1; message = message; release = release; copy = 1 } ∷ []) }
 {
     let slot = OwnSlot {
         slot: 1,
         message,
         release,
+        copy: 1,
     };
     Ok(ListOf::from_vec(vec![in alloc; slot]?))
 }
