@@ -12,6 +12,7 @@ pub mod RunSteps
 pub mod EndSteps
 pub mod StartSteps
 pub mod NodeLimits
+pub mod Consumers
 pub mod WorldRight
 pub mod QuietSteps
 pub mod LastBeacons

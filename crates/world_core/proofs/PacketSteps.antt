@@ -1,7 +1,7 @@
 -- A slot in the world: a packet may be taken, and the in registers after it and after silence
-use Rattle.std.proofs.Common.{◌≡◌, ◌≢◌, ℕ, suc, ◌<◌, Bool, true, false, cond, ◌&&◌, ◌||◌, List, [], ◌∷◌, length, get_or, filter, replicate, Contains, refl, sym, ◌∙◌, ap, subst, arith, ℤ}
+use Rattle.std.proofs.Common.{◌≡◌, ◌≢◌, ℕ, suc, ◌<◌, Bool, true, false, cond, not, ◌&&◌, ◌||◌, List, [], ◌∷◌, length, get_or, filter, replicate, Contains, refl, sym, ◌∙◌, ap, subst, arith, ℤ}
 use Rattle.std.specs.Prelude.{nat_eq, Option, Some, None, IfSome}
-use Rattle.std.proofs.lemmas.Bool.{cond-true, cond-false, eqb-true, eqb-false, eq-eqb, ne_eqb}
+use Rattle.std.proofs.lemmas.Bool.{and_parts, cond-true, cond-false, eqb-true, eqb-false, eq-eqb, ne_eqb}
 use Rattle.std.proofs.lemmas.List.{get_or-replicate, length-map}
 use Rattle.sched_model.specs.Numbers.{below, has}
 use Rattle.sched_model.specs.PlainMode.{task_at, message_at}
@@ -12,7 +12,7 @@ use Rattle.runtime_model.specs.Entries.{Action, slot}
 use Rattle.runtime_model.specs.Outcomes.{PlainEvent, advance, Spot, Outcome, sent, silent, Step}
 use Rattle.runtime_model.specs.LookingBack.{synced, settled, coasts, runs, recall}
 use Rattle.runtime_model.specs.NodeTables.{part_of, is_own}
-use Rattle.runtime_model.specs.Packets.{all_present, both, held, packet, reached, takes, takes_on}
+use Rattle.runtime_model.specs.Packets.{all_present, both, has_copy, held, packet, reached, takes, takes_on}
 use Rattle.runtime_model.specs.Placement.{placed, own_slot as is_own_slot, window_at}
 use Rattle.runtime_model.specs.Registers.{flat, in_register, last_in, values_of}
 use Rattle.runtime_model.specs.System.{System, plan_at}
@@ -24,19 +24,20 @@ use Rattle.node_tables.specs.Parts.{typed_table}
 use Rattle.node_core.specs.declared.packet.Packet.{Packet}
 use Rattle.node_core.specs.Conditions.{IsOfSlot}
 use Rattle.node_core.specs.Fits.{HasRoom}
-use Rattle.node_core.specs.Lookup.{own_message, own_slot, is_taken}
+use Rattle.node_core.specs.Lookup.{own_message, own_slot}
 use Rattle.node_core.specs.PartLookups.{PartLooksUp, consumers_on, kept_message}
 use Rattle.node_core.specs.Registers.{InRow, RegistersSeen, filled, register_in, register_of, row_of}
-use Rattle.node_core.specs.Rules.{announced, is_received, registers_with}
+use Rattle.node_core.specs.Rules.{announced, copy_of_slot, is_received, registers_with}
 use Rattle.node_core.specs.Running.{RunningNode, mode_of, round_of}
 use Rattle.node_core.proofs.RegisterRules.{read_written}
 use Rattle.world_core.specs.declared.state.State.{State}
 use Rattle.world_core.specs.declared.state.State.TheVariants.{Listens, Syncs, Coasts}
-use Rattle.world_core.specs.NodeStates.{registers_of, running_of, after_packet, MayReceiveNow, MayUseSlotNow}
+use Rattle.world_core.specs.NodeStates.{registers_of, running_of, after_packet, takes_now, MayReceiveNow, MayUseSlotNow}
 use Rattle.world_core.specs.Standing.{IsOn, KeepsRegisters}
+use Rattle.world_core.proofs.Consumers.{Once}
 use Rattle.world_core.proofs.EntryNodes.{EntryNode}
 use Rattle.world_core.proofs.RunSteps.{IsCalm, recall_now, recall_past}
-use Rattle.world_core.proofs.SlotSteps.{KnowsSlot, knows_slot, slot_carried, slot_message, slot_right, place, slot_here, taken_is, not_own, coasts_unheard, listens_unheard, synced_heard}
+use Rattle.world_core.proofs.SlotSteps.{KnowsSlot, knows_slot, slot_carried, slot_message, slot_right, place, slot_here, takes_is, coasts_unheard, listens_unheard, synced_heard, unheard}
 
 -- ---- lists
 
@@ -110,25 +111,16 @@ left_ins p v d ds ins q k = record {
 
 -- ---- at a slot
 
--- a packet of a message that the node does not take changes nothing
-untaken : (o : Option OwnMessage) (x : Packet) (g : RegistersSeen) → is_received o ≡ false → registers_with o x g ≡ g
-untaken None x g e = refl
-untaken (Some m) x g e = cond-false (is_taken m) (filled m x.values g) g e
-
 -- whether a node takes a packet
-unheard_off : (a b c : Bool) → b ≡ false → (a && (b && c)) ≡ false
-unheard_off true b c e = ap (λ x. x && c) e
-unheard_off false b c e = refl
+unreached_off : (a b c d : Bool) → c ≡ false → (a && (b && (c && d))) ≡ false
+unreached_off a b true d e = absurd cc
+unreached_off true true false d e = refl
+unreached_off true false false d e = refl
+unreached_off false b false d e = refl
 
-unreached_off : (a b c : Bool) → c ≡ false → (a && (b && c)) ≡ false
-unreached_off true true c e = e
-unreached_off true false c e = refl
-unreached_off false b c e = refl
-
-reached_takes : (a b c : Bool) → b ≡ true → c ≡ true → (a && (b && c)) ≡ a
-reached_takes true true c f e = e
-reached_takes true false c f e = absurd cc
-reached_takes false b c f e = refl
+reached_takes : (a b c d : Bool) → c ≡ true → (a && (b && (c && d))) ≡ (a && (b && d))
+reached_takes a b true d e = refl
+reached_takes a b false d e = absurd cc
 
 heard_runs : (a b : Bool) → a ≡ true → (a || b) ≡ true
 heard_runs a b e = ap (λ x. x || b) e
@@ -156,8 +148,21 @@ module _ (y : System) (right : PlansAreRight y) (es : List PlainEvent) (rf : Req
   abbrev of_values : List ℤ → Packet
   of_values xs = record { message = number; values = xs }
 
+  abbrev window : ℕ
+  window = window_at p s.turn j i
+
+  -- which nodes take it
+  abbrev taking : (lost : ℕ) → ℕ → Bool
+  taking lost = takes p s.stay lost sender i window ds
+
   pub slot_out : (lost : ℕ) → (step_of y (advance lost) ds).out ≡ sent_or_not p y.nodes s j i ds (packet p s j i ds) lost
   slot_out lost = ap (λ (w : Action). performed y p s lost ds (entry_at y s).tick w) act
+
+  -- it is sent where the slot is placed
+  pub sent_placed : (xs : List ℤ) → packet p s j i ds ≡ Some xs → placed s.hyper.opening s.hyper.phase (is_own_slot p j i) ≡ true
+  sent_placed xs e =
+      let own = placed s.hyper.opening s.hyper.phase (is_own_slot p j i) in
+      (and_parts own (synced sender ds) (cond_some (own && synced sender ds) (held p s.stay i window ds) xs e).0).0
 
   -- a packet has one value per producer
   pub packet_length : (xs : List ℤ) → packet p s j i ds ≡ Some xs → length xs ≡ length (message_at p.mode i).from
@@ -204,11 +209,8 @@ module _ (y : System) (right : PlansAreRight y) (es : List PlainEvent) (rf : Req
 
     -- ---- a packet
 
-    abbrev window : ℕ
-    window = window_at p s.turn j i
-
     abbrev sent_here : (lost : ℕ) → List ℤ → Outcome
-    sent_here lost xs = sent sender i window xs (filter (takes p lost sender i ds) (below y.nodes))
+    sent_here lost xs = sent sender i window xs (filter (taking lost) (below y.nodes))
 
     sent_out : (lost : ℕ) (xs : List ℤ) → packet p s j i ds ≡ Some xs → (step_of y (advance lost) ds).out ≡ sent_here lost xs
     sent_out lost xs e = slot_out lost ∙ ap (λ o. sent_or_not p y.nodes s j i ds o lost) e
@@ -217,15 +219,15 @@ module _ (y : System) (right : PlansAreRight y) (es : List PlainEvent) (rf : Req
     calm_here lost xs e = subst (IsCalm v) (sym (sent_out lost xs e)) (record { beacon = refl; restart = refl })
 
     -- whether the packet is in the in register of a task on the node for a message
-    filled_by : (lost : ℕ) (xs : List ℤ) (b x : ℕ) (t u : Bool) → v < y.nodes → packet p s j i ds ≡ Some xs → nat_eq i x ≡ t → takes p lost sender i ds v ≡ u →
+    filled_by : (lost : ℕ) (xs : List ℤ) (b x : ℕ) (t u : Bool) → v < y.nodes → packet p s j i ds ≡ Some xs → nat_eq i x ≡ t → taking lost v ≡ u →
         last_in v b x (step_of y (advance lost) ds).out ≡ cond (t && u) (Some (Some (window, xs))) None
     filled_by lost xs b x t u l e same takes_it =
         ap (last_in v b x) (sent_out lost xs e)
-        ∙ ap (λ (c : Bool). cond {A = Option (Option (ℕ × List ℤ))} (c && has (filter (takes p lost sender i ds) (below y.nodes)) v) (Some (Some (window, xs))) None) same
-        ∙ ap (λ (c : Bool). cond {A = Option (Option (ℕ × List ℤ))} (t && c) (Some (Some (window, xs))) None) (has_kept (takes p lost sender i ds) y.nodes v l ∙ takes_it)
+        ∙ ap (λ (c : Bool). cond {A = Option (Option (ℕ × List ℤ))} (c && has (filter (taking lost) (below y.nodes)) v) (Some (Some (window, xs))) None) same
+        ∙ ap (λ (c : Bool). cond {A = Option (Option (ℕ × List ℤ))} (t && c) (Some (Some (window, xs))) None) (has_kept (taking lost) y.nodes v l ∙ takes_it)
 
     -- a node that does not take it
-    untaken_ins : (lost : ℕ) (xs : List ℤ) (ins : List InRow) → v < y.nodes → packet p s j i ds ≡ Some xs → takes p lost sender i ds v ≡ false →
+    untaken_ins : (lost : ℕ) (xs : List ℤ) (ins : List InRow) → v < y.nodes → packet p s j i ds ≡ Some xs → taking lost v ≡ false →
         KeepsIns p v s.stay ds ins → KeepsIns p v s.stay (step_of y (advance lost) ds ∷ ds) ins
     untaken_ins lost xs ins l e out k =
         left_ins p v (step_of y (advance lost) ds) ds ins
@@ -237,7 +239,7 @@ module _ (y : System) (right : PlansAreRight y) (es : List PlainEvent) (rf : Req
         off false = refl
 
     -- a node that takes it
-    taken_ins : (lost : ℕ) (xs : List ℤ) (g : RegistersSeen) → v < y.nodes → packet p s j i ds ≡ Some xs → takes p lost sender i ds v ≡ true → runs v ds ≡ true → number < length g.ins →
+    taken_ins : (lost : ℕ) (xs : List ℤ) (g : RegistersSeen) → v < y.nodes → packet p s j i ds ≡ Some xs → taking lost v ≡ true → runs v ds ≡ true → number < length g.ins →
         KeepsIns p v s.stay ds g.ins → KeepsIns p v s.stay (step_of y (advance lost) ds ∷ ds) (filled kept xs g).ins
     taken_ins lost xs g l e got run room k = record {
       ins = λ b x on lx to. by_message b x on lx to (nat_eq i x) refl;
@@ -275,40 +277,53 @@ module _ (y : System) (right : PlansAreRight y) (es : List PlainEvent) (rf : Req
             ∙ ap values_of (sym (in_past p v b x d ds (calm_here lost xs e) on (filled_by lost xs b x false true l e t got)))
 
     -- what a Synced node has after the packet, by whether it takes it
-    received_by : (r : RunningNode) (xs : List ℤ) (t : Bool) → EntryNode y v ds (Syncs r) → takes_on p i v ≡ t → registers_of (after_packet (Syncs r) here (of_values xs)) ≡ cond t (filled kept xs r.registers) r.registers
-    received_by r xs t at e =
-        ap (λ o. registers_with o (of_values xs) r.registers) (slot_message y right es rf j i act v part r (knows_slot y right es rf j i act v part r at.table (at.place r refl)))
-        ∙ by_own (is_own p v i) refl t e
+    received_by : (r : RunningNode) (xs : List ℤ) → EntryNode y v ds (Syncs r) → registers_of (after_packet (Syncs r) here (of_values xs)) ≡ cond (takes_now (Syncs r) here) (filled kept xs r.registers) r.registers
+    received_by r xs at =
+        subst (λ (o : Option OwnMessage). registers_with copy o (of_values xs) r.registers ≡ cond (is_received r.registers copy o) (filled kept xs r.registers) r.registers)
+        (sym (slot_message y right es rf j i act v part r (knows_slot y right es rf j i act v part r at.table (at.place r refl)))) (by_own (is_own p v i))
       where
-        by_own : (b : Bool) → is_own p v i ≡ b → (t : Bool) → takes_on p i v ≡ t → registers_with (cond b (Some kept) None) (of_values xs) r.registers ≡ cond t (filled kept xs r.registers) r.registers
-        by_own true own t e = ap (λ c. cond c (filled kept xs r.registers) r.registers) (taken_is p v i ∙ e)
-        by_own false own true e = absurd (let q : false ≡ true = sym (not_own (nat_eq sender v) (takes_on p i v) own).1 ∙ e in cc)
-        by_own false own false e = refl
+        copy : ℕ
+        copy = copy_of_slot r here
+
+        by_own : (b : Bool) → registers_with copy (cond b (Some kept) None) (of_values xs) r.registers ≡ cond (is_received r.registers copy (cond b (Some kept) None)) (filled kept xs r.registers) r.registers
+        by_own true = refl
+        by_own false = refl
+
+    -- a node that did not hear the last beacon takes nothing
+    unheard_ins : (lost : ℕ) (xs : List ℤ) (ins : List InRow) → v < y.nodes → packet p s j i ds ≡ Some xs → synced v ds ≡ false → KeepsIns p v s.stay ds ins → KeepsIns p v s.stay (step_of y (advance lost) ds ∷ ds) ins
+    unheard_ins lost xs ins l e deaf k =
+        untaken_ins lost xs ins l e (unheard (takes_on p i v) (synced v ds) (reached lost sender v && not (has_copy s.stay i window ds v)) deaf) k
 
     -- the in registers after a packet, of a node that it reaches or not
-    pub packet_ins : (n : State) (lost : ℕ) (xs : List ℤ) → EntryNode y v ds n → v < y.nodes → ((r : RunningNode) → running_of n ≡ Some r → HasRoom r.registers) → number < 512 → packet p s j i ds ≡ Some xs →
+    pub packet_ins : (n : State) (lost : ℕ) (xs : List ℤ) → EntryNode y v ds n → Once (message_at p.mode i).to → v < y.nodes → ((r : RunningNode) → running_of n ≡ Some r → HasRoom r.registers) → number < 512 → packet p s j i ds ≡ Some xs →
         KeepsIns p v s.stay (step_of y (advance lost) ds ∷ ds) (registers_of (cond (reached lost sender v) (after_packet n here (of_values xs)) n)).ins
-    packet_ins (Listens t) lost xs at l room small e = by_test (reached lost sender v)
+    packet_ins (Listens t) lost xs at once l room small e = by_test (reached lost sender v)
       where
+        left : KeepsIns p v s.stay (step_of y (advance lost) ds ∷ ds) (registers_of (Listens t)).ins
+        left = unheard_ins lost xs (registers_of (Listens t)).ins l e (listens_unheard (synced v ds) (settled v ds) (coasts v ds) at.kind) (ins_kept p v s.stay ds (registers_of (Listens t)) at.registers)
+
         by_test : (b : Bool) → KeepsIns p v s.stay (step_of y (advance lost) ds ∷ ds) (registers_of (cond b (Listens t) (Listens t))).ins
-        by_test true = untaken_ins lost xs (registers_of (Listens t)).ins l e (unheard_off (takes_on p i v) (synced v ds) (reached lost sender v) (listens_unheard (synced v ds) (settled v ds) (coasts v ds) at.kind)) (ins_kept p v s.stay ds (registers_of (Listens t)) at.registers)
-        by_test false = untaken_ins lost xs (registers_of (Listens t)).ins l e (unheard_off (takes_on p i v) (synced v ds) (reached lost sender v) (listens_unheard (synced v ds) (settled v ds) (coasts v ds) at.kind)) (ins_kept p v s.stay ds (registers_of (Listens t)) at.registers)
-    packet_ins (Coasts r) lost xs at l room small e = by_test (reached lost sender v)
+        by_test true = left
+        by_test false = left
+    packet_ins (Coasts r) lost xs at once l room small e = by_test (reached lost sender v)
       where
+        left : KeepsIns p v s.stay (step_of y (advance lost) ds ∷ ds) r.registers.ins
+        left = unheard_ins lost xs r.registers.ins l e (coasts_unheard (synced v ds) (settled v ds) (coasts v ds) at.kind) (ins_kept p v s.stay ds r.registers at.registers)
+
         by_test : (b : Bool) → KeepsIns p v s.stay (step_of y (advance lost) ds ∷ ds) (registers_of (cond b (Coasts r) (Coasts r))).ins
-        by_test true = untaken_ins lost xs r.registers.ins l e (unheard_off (takes_on p i v) (synced v ds) (reached lost sender v) (coasts_unheard (synced v ds) (settled v ds) (coasts v ds) at.kind)) (ins_kept p v s.stay ds r.registers at.registers)
-        by_test false = untaken_ins lost xs r.registers.ins l e (unheard_off (takes_on p i v) (synced v ds) (reached lost sender v) (coasts_unheard (synced v ds) (settled v ds) (coasts v ds) at.kind)) (ins_kept p v s.stay ds r.registers at.registers)
-    packet_ins (Syncs r) lost xs at l room small e = by_reached (reached lost sender v) refl
+        by_test true = left
+        by_test false = left
+    packet_ins (Syncs r) lost xs at once l room small e = by_reached (reached lost sender v) refl
       where
-        after : (t : Bool) → takes_on p i v ≡ t → (c : Bool) → takes p lost sender i ds v ≡ c → c ≡ t → KeepsIns p v s.stay (step_of y (advance lost) ds ∷ ds) (cond t (filled kept xs r.registers) r.registers).ins
-        after true e1 true e2 q =
-            taken_ins lost xs r.registers l e e2 (heard_runs (synced v ds) (coasts v ds) (synced_heard (announced r) (synced v ds) (settled v ds) (coasts v ds) at.kind)) (omega (arith, small, (room r refl).rows)) (ins_kept p v s.stay ds r.registers at.registers)
-        after false e1 false e2 q = untaken_ins lost xs r.registers.ins l e e2 (ins_kept p v s.stay ds r.registers at.registers)
-        after true e1 false e2 q = absurd cc
-        after false e1 true e2 q = absurd cc
+        after : (t : Bool) → taking lost v ≡ t → KeepsIns p v s.stay (step_of y (advance lost) ds ∷ ds) (cond t (filled kept xs r.registers) r.registers).ins
+        after true got =
+            taken_ins lost xs r.registers l e got (heard_runs (synced v ds) (coasts v ds) (synced_heard (announced r) (synced v ds) (settled v ds) (coasts v ds) at.kind)) (omega (arith, small, (room r refl).rows)) (ins_kept p v s.stay ds r.registers at.registers)
+        after false out = untaken_ins lost xs r.registers.ins l e out (ins_kept p v s.stay ds r.registers at.registers)
 
         by_reached : (b : Bool) → reached lost sender v ≡ b → KeepsIns p v s.stay (step_of y (advance lost) ds ∷ ds) (registers_of (cond b (after_packet (Syncs r) here (of_values xs)) (Syncs r))).ins
         by_reached true f =
-            subst (λ (g : RegistersSeen). KeepsIns p v s.stay (step_of y (advance lost) ds ∷ ds) g.ins) (sym (received_by r xs (takes_on p i v) at refl))
-            (after (takes_on p i v) refl (takes p lost sender i ds v) refl (reached_takes (takes_on p i v) (synced v ds) (reached lost sender v) (synced_heard (announced r) (synced v ds) (settled v ds) (coasts v ds) at.kind) f))
-        by_reached false f = untaken_ins lost xs r.registers.ins l e (unreached_off (takes_on p i v) (synced v ds) (reached lost sender v) f) (ins_kept p v s.stay ds r.registers at.registers)
+            subst (λ (g : RegistersSeen). KeepsIns p v s.stay (step_of y (advance lost) ds ∷ ds) g.ins) (sym (received_by r xs at))
+            (after (takes_now (Syncs r) here)
+            (reached_takes (takes_on p i v) (synced v ds) (reached lost sender v) (not (has_copy s.stay i window ds v)) f
+            ∙ sym (takes_is y right es rf j i act v part (Syncs r) at once (sent_placed xs e))))
+        by_reached false f = untaken_ins lost xs r.registers.ins l e (unreached_off (takes_on p i v) (synced v ds) (reached lost sender v) (not (has_copy s.stay i window ds v)) f) (ins_kept p v s.stay ds r.registers at.registers)

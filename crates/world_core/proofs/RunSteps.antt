@@ -14,9 +14,8 @@ use Rattle.runtime_model.specs.History.{step_of, spot_next, entry_at, performed,
 use Rattle.runtime_model.proofs.Registers.{still_runs}
 use Rattle.node_tables.specs.declared.tables.OwnMessage.{OwnMessage}
 use Rattle.node_core.specs.declared.packet.Packet.{Packet}
-use Rattle.node_core.specs.Lookup.{is_taken}
 use Rattle.node_core.specs.Registers.{RegistersSeen, out_of, filled}
-use Rattle.node_core.specs.Rules.{message_of_slot, registers_with}
+use Rattle.node_core.specs.Rules.{copy_of_slot, message_of_slot, registers_with, takes_copy}
 use Rattle.world_core.specs.declared.state.State.{State}
 use Rattle.world_core.specs.declared.state.State.TheVariants.{Listens, Syncs, Coasts}
 use Rattle.world_core.specs.NodeStates.{registers_of, after_packet}
@@ -131,9 +130,9 @@ slot_runs y ds lost v j i g new act outs run k =
     quiet_runs p v (step_of y (advance lost) ds) ds g new (subst (IsQuiet p v) (sym out) (sent_quiet p y.nodes v s j i ds (packet p s j i ds) lost)) outs run k
 
 -- a packet fills in registers alone
-packet_fills : (o : Option OwnMessage) (x : Packet) (g : RegistersSeen) → ((registers_with o x g).outs ≡ g.outs) × ((registers_with o x g).run ≡ g.run)
-packet_fills None x g = (refl, refl)
-packet_fills (Some m) x g = by_test (is_taken m)
+packet_fills : (copy : ℕ) (o : Option OwnMessage) (x : Packet) (g : RegistersSeen) → ((registers_with copy o x g).outs ≡ g.outs) × ((registers_with copy o x g).run ≡ g.run)
+packet_fills copy None x g = (refl, refl)
+packet_fills copy (Some m) x g = by_test (takes_copy g copy m)
   where
     by_test : (b : Bool) → ((cond b (filled m x.values g) g).outs ≡ g.outs) × ((cond b (filled m x.values g) g).run ≡ g.run)
     by_test true = (refl, refl)
@@ -141,5 +140,5 @@ packet_fills (Some m) x g = by_test (is_taken m)
 
 pub after_packet_runs : (n : State) (number : ℕ) (x : Packet) → let old = registers_of n in let new = registers_of (after_packet n number x) in (new.outs ≡ old.outs) × (new.run ≡ old.run)
 after_packet_runs (Listens t) number x = (refl, refl)
-after_packet_runs (Syncs n) number x = packet_fills (message_of_slot n number) x n.registers
+after_packet_runs (Syncs n) number x = packet_fills (copy_of_slot n number) (message_of_slot n number) x n.registers
 after_packet_runs (Coasts n) number x = (refl, refl)

@@ -1,41 +1,50 @@
 -- A slot in the world: what each node sends in it, and whether it takes its packet
-use Rattle.std.proofs.Common.{◌≡◌, ℕ, zero, suc, ◌+◌, ◌<◌, Bool, true, false, cond, ◌&&◌, ◌||◌, List, [], ◌∷◌, length, get_or, map, filter, Contains, refl, sym, ◌∙◌, ap, subst, arith, ℤ}
-use Rattle.std.specs.Prelude.{nat_eq, nat_lt, Option, Some, None}
-use Rattle.std.specs.List.{list_any}
-use Rattle.std.proofs.lemmas.Bool.{cond-true, cond-false, eqb-true, eqb-false, eq-eqb, lt-ltb}
+use Rattle.std.proofs.Common.{◌≡◌, ℕ, zero, suc, ◌+◌, ◌<◌, ◌≤◌, Bool, true, false, cond, not, ◌&&◌, ◌||◌, List, [], ◌∷◌, length, get_or, map, filter, Contains, refl, sym, ◌∙◌, ap, subst, arith, ℤ}
+use Rattle.std.specs.Prelude.{nat_eq, nat_lt, Option, Some, None, is_some}
+use Rattle.std.specs.List.{list_all, list_any}
+use Rattle.std.proofs.lemmas.Bool.{cond-true, cond-false, eqb-true, eqb-false, eq-eqb, lt-ltb, ltb-true}
+use Rattle.std.proofs.lemmas.Bool.Decides.{nat_tests}
+use Rattle.std.proofs.lemmas.List.{length-map}
+use Rattle.std.proofs.lemmas.List.Elements.{All-contains, All-filter, Contains-get_or, filter_passes}
+use Rattle.std.proofs.lemmas.List.Folds.{list_all-append}
 use Rattle.std.proofs.lemmas.Option.{same_Some}
 use Rattle.std.proofs.lemmas.Simd.{map-map}
+use Rattle.sched_model.specs.Numbers.{below}
 use Rattle.sched_model.specs.PlainMode.{task_at, message_at}
 use Rattle.sched_model.proofs.Graph.{has_contains, message_edge}
+use Rattle.runtime_model.specs.Copies.{copy_at}
 use Rattle.runtime_model.specs.Plans.{Plan, RightPlan, Carried, node_of, sender_of}
 use Rattle.runtime_model.specs.Entries.{slot}
-use Rattle.runtime_model.specs.Outcomes.{PlainEvent, advance, Spot, Step}
-use Rattle.runtime_model.specs.LookingBack.{synced, settled, coasts, last_beacon}
+use Rattle.runtime_model.specs.Outcomes.{PlainEvent, advance, Spot, Step, took}
+use Rattle.runtime_model.specs.LookingBack.{synced, settled, coasts, last_beacon, recall}
 use Rattle.runtime_model.specs.NodeTables.{part_of, is_own, numbers}
 use Rattle.runtime_model.specs.NodeKinds.{listening, in_sync, coasting, kind_by}
-use Rattle.runtime_model.specs.Packets.{all_present, held, packet, takes_on}
+use Rattle.runtime_model.specs.Packets.{all_present, has_copy, held, packet, takes_on}
 use Rattle.runtime_model.specs.Placement.{placed, own_slot as is_own_slot, release, window_at}
 use Rattle.runtime_model.specs.Registers.{out_register, value_of, registers}
 use Rattle.runtime_model.specs.System.{System, plan_at}
 use Rattle.runtime_model.specs.History.{history, spot_next, entry_at}
 use Rattle.runtime_model.specs.Laws.{PlansAreRight, RequestsFit}
+use Rattle.runtime_model.proofs.CopyNumbers.{copies_are_numbered}
 use Rattle.runtime_model.proofs.Modes.{all_right}
 use Rattle.runtime_model.proofs.SlotBeacon.{AtSlot, slot_stands}
+use Rattle.runtime_model.proofs.SlotInputs.{first_copies_are_first, inputs_hold_at_slots}
 use Rattle.runtime_model.proofs.Slots.{registers_hold}
 use Rattle.node_tables.specs.declared.tables.OwnMessage.{OwnMessage}
 use Rattle.node_tables.specs.declared.tables.OwnSlot.{OwnSlot}
 use Rattle.node_tables.specs.Parts.{typed_table}
 use Rattle.node_core.specs.declared.packet.Packet.{Packet}
 use Rattle.node_core.specs.Lookup.{mode_at, round_at, own_message, own_slot, is_taken}
-use Rattle.node_core.specs.PartLookups.{PartLooksUp, kept_message, message_in_slot, table_at}
-use Rattle.node_core.specs.Registers.{RegistersSeen, out_of, values_of}
-use Rattle.node_core.specs.Rules.{announced, phase_known, slot_placed, message_in, packet_of, packet_from, sent_in, is_received, message_of_slot}
+use Rattle.node_core.specs.PartLookups.{PartLooksUp, consumers_on, kept_message, message_in_slot, table_at}
+use Rattle.node_core.specs.Registers.{RegistersSeen, all_full, out_of, register_at, register_in, values_of}
+use Rattle.node_core.specs.Rules.{announced, phase_known, slot_placed, message_in, packet_of, packet_from, sent_in, copy_in, takes_copy, is_received, message_of_slot}
 use Rattle.node_core.specs.Running.{RunningNode, mode_of, round_of}
 use Rattle.world_core.specs.declared.state.State.{State}
 use Rattle.world_core.specs.declared.state.State.TheVariants.{Listens, Syncs, Coasts}
 use Rattle.world_core.specs.Cycle.{slot_of}
 use Rattle.world_core.specs.NodeStates.{sent_now, takes_now}
 use Rattle.world_core.specs.Standing.{KeepsRegisters}
+use Rattle.world_core.proofs.Consumers.{Once, once_left}
 use Rattle.world_core.proofs.EntryNodes.{EntryNode, IsAtEntry}
 use Rattle.world_core.proofs.StartSteps.{alike_beacon, placed_alike, known_drains}
 
@@ -93,9 +102,32 @@ pub not_own : (a b : Bool) → (a || b) ≡ false → (a ≡ false) × (b ≡ fa
 not_own true b e = absurd cc
 not_own false b e = (refl, e)
 
-pub never : (a b : Bool) → b ≡ false → (a && b) ≡ false
-never true b e = e
-never false b e = refl
+pub unheard : (a b c : Bool) → b ≡ false → (a && (b && c)) ≡ false
+unheard true b c e = ap (λ x. x && c) e
+unheard false b c e = refl
+
+-- a copy from 1 on that is not above 1 is the first
+first_of_all : (copy : ℕ) → nat_lt 1 copy ≡ false → 1 ≤ copy → copy ≡ 1
+first_of_all copy e some = grind (arith, nat_tests, e, some)
+
+-- a test that is the same below n is passed by all numbers below n where one passes it
+all_alike : (t : ℕ → Bool) (h : Bool) (n : ℕ) → 0 < n → ((c : ℕ) → c < n → t c ≡ h) → list_all t (below n) ≡ h
+all_alike t h zero l e = absurd (omega (arith, l))
+all_alike t h (suc n) l e =
+    list_all-append t (below n) (n ∷ []) ∙ by_more n (all_alike t h n) e
+  where
+    both : (b c : Bool) → b ≡ h → c ≡ h → (b && (c && true)) ≡ h
+    both true true f g = g
+    both true false f g = g
+    both false c f g = f
+
+    last : (c : Bool) → c ≡ h → (c && true) ≡ h
+    last true g = g
+    last false g = g
+
+    by_more : (k : ℕ) → (0 < k → ((c : ℕ) → c < k → t c ≡ h) → list_all t (below k) ≡ h) → ((c : ℕ) → c < suc k → t c ≡ h) → (list_all t (below k) && (t k && true)) ≡ h
+    by_more zero rest e = last (t 0) (e 0 (omega arith))
+    by_more (suc k) rest e = both (list_all t (below (suc k))) (t (suc k)) (rest (omega arith) (λ c l. e c (omega (arith, l)))) (e (suc k) (omega arith))
 
 alike_mapped : {X Y : Type 0} (f g : X → Y) (xs : List X) → ((x : X) → Contains xs x → f x ≡ g x) → map f xs ≡ map g xs
 alike_mapped f g [] h = refl
@@ -167,7 +199,7 @@ module _ (y : System) (right : PlansAreRight y) (es : List PlainEvent) (rf : Req
   module _ (v : ℕ) (part : PartLooksUp y.plans v s.hyper.mode p (typed_table (part_of y.plans v))) where
     -- the slot and its message, as the node keeps them
     abbrev pub slot_here : OwnSlot
-    slot_here = record { slot = suc slot_spot.0; message = number; release = release p j i }
+    slot_here = record { slot = suc slot_spot.0; message = number; release = release p j i; copy = copy_at p j i }
 
     abbrev pub message_here : OwnMessage
     message_here = kept_message p v i
@@ -178,7 +210,7 @@ module _ (y : System) (right : PlansAreRight y) (es : List PlainEvent) (rf : Req
         slot_right.valid.numbers (message_in_slot p j slot_spot.0) i w.0 slot_carried.1 (w.1 ∙ slot_spot.3)
 
     abbrev as_kept : ℕ → ℕ → ℕ → OwnSlot
-    as_kept k n z = record { slot = suc k; message = n; release = release p j z }
+    as_kept k n z = record { slot = suc k; message = n; release = release p j z; copy = copy_at p j z }
 
     -- what a running node knows of the slot
     pub record KnowsSlot (r : RunningNode) : Type 0 where
@@ -278,21 +310,70 @@ module _ (y : System) (right : PlansAreRight y) (es : List PlainEvent) (rf : Req
         by_own true e = knows.message e
         by_own false e = refl
 
-    pub received_is : is_received (cond (is_own p v i) (Some message_here) None) ≡ takes_on p i v
-    received_is = by_own (is_own p v i) refl
-      where
-        by_own : (b : Bool) → is_own p v i ≡ b → is_received (cond b (Some message_here) None) ≡ takes_on p i v
-        by_own true e = taken_is p v i
-        by_own false e = sym (not_own (nat_eq sender v) (takes_on p i v) e).1
+    -- the window of the slot
+    abbrev window : ℕ
+    window = window_at p s.turn j i
 
-    -- a node takes the packet where a consumer of its message is on it and it heard the last beacon
-    pub takes_is : (n : State) → EntryNode y v ds n → takes_now n place ≡ (takes_on p i v && synced v ds)
-    takes_is (Listens t) at = sym (never (takes_on p i v) (synced v ds) (listens_unheard (synced v ds) (settled v ds) (coasts v ds) at.kind))
-    takes_is (Syncs r) at =
-        ap is_received (slot_message r (knows_slot r at.table (at.place r refl))) ∙ received_is
-        ∙ heard (takes_on p i v) (synced v ds) (synced_heard (announced r) (synced v ds) (settled v ds) (coasts v ds) at.kind)
+    -- at a placed slot the in register of each consumer has what the node took in the window
+    register_is : (g : RegistersSeen) → KeepsRegisters p v s.stay ds g → Once (message_at p.mode i).to → placed s.hyper.opening s.hyper.phase (is_own_slot p j i) ≡ true →
+        (c : ℕ) → c < length (consumers_on p v i) → register_at g.ins message_here c ≡ recall v s.stay (took v i window) ds
+    register_is g keeps once pl c l =
+        let xs = consumers_on p v i in
+        let b = get_or xs c 0 in
+        let on = λ (a : ℕ). nat_eq (node_of p a) v in
+        let to = All-contains (Contains (message_at p.mode i).to) xs b (All-filter on (Contains (message_at p.mode i).to) (message_at p.mode i).to (λ k d l. Contains-get_or (message_at p.mode i).to k d l)) (Contains-get_or xs c 0 l) in
+        let on_v : node_of p b ≡ v = eqb-true (node_of p b) v (All-contains (λ a. on a ≡ true) xs b (filter_passes on (message_at p.mode i).to) (Contains-get_or xs c 0 l)) in
+        let from = slot_right.valid.producer i slot_carried.1 in
+        let known = (slot_right.valid.edges from.0 b (message_edge p.mode i from.0 b slot_carried.1 from.1 to)).to in
+        let f = part.consumer i b slot_carried.1 to on_v in
+        let same : f.0 ≡ c = once_left on (message_at p.mode i).to once f.0 c f.1 l f.2 in
+        ap (register_at g.ins message_here) (sym same)
+        ∙ sym (ap (register_in g.ins message_here) f.3)
+        ∙ keeps.ins b i (known, on_v) slot_carried.1 to
+        ∙ sym (inputs_hold_at_slots y es j i b slot_right slot_carried to act pl)
+        ∙ ap (λ w. recall w s.stay (took w i window) ds) on_v
+
+    -- so a node with a consumer passes over the slot's copy where it has one of the window
+    passed_over : (g : RegistersSeen) → KeepsRegisters p v s.stay ds g → Once (message_at p.mode i).to → placed s.hyper.opening s.hyper.phase (is_own_slot p j i) ≡ true →
+        is_taken message_here ≡ true → (nat_lt 1 (copy_at p j i) && all_full g.ins message_here) ≡ has_copy s.stay i window ds v
+    passed_over g keeps once pl some = by_copy (nat_lt 1 (copy_at p j i)) refl
       where
-        heard : (a b : Bool) → b ≡ true → a ≡ (a && b)
-        heard true b e = sym e
-        heard false b e = refl
-    takes_is (Coasts r) at = sym (never (takes_on p i v) (synced v ds) (coasts_unheard (synced v ds) (settled v ds) (coasts v ds) at.kind))
+        by_copy : (b : Bool) → nat_lt 1 (copy_at p j i) ≡ b → (b && all_full g.ins message_here) ≡ has_copy s.stay i window ds v
+        by_copy true e =
+            all_alike (λ c. is_some (register_at g.ins message_here c)) (has_copy s.stay i window ds v) (length message_here.consumers) (ltb-true 0 (length message_here.consumers) some)
+            (λ c l. ap is_some (register_is g keeps once pl c (omega (arith, l, length-map (consumers_on p v i) (λ a. (task_at p.mode a).number)))))
+        by_copy false e =
+            let counted = copies_are_numbered y.nodes p j i slot_right slot_carried in
+            ap is_some (sym (first_copies_are_first y es j i v slot_right slot_carried act pl (first_of_all (copy_at p j i) e counted.0)))
+
+    takes_copy_is : (g : RegistersSeen) → KeepsRegisters p v s.stay ds g → Once (message_at p.mode i).to → placed s.hyper.opening s.hyper.phase (is_own_slot p j i) ≡ true →
+        takes_copy g (copy_at p j i) message_here ≡ (takes_on p i v && not (has_copy s.stay i window ds v))
+    takes_copy_is g keeps once pl = by_taken (is_taken message_here) refl ∙ ap (λ b. b && not (has_copy s.stay i window ds v)) (taken_is p v i)
+      where
+        by_taken : (b : Bool) → is_taken message_here ≡ b → (b && not (nat_lt 1 (copy_at p j i) && all_full g.ins message_here)) ≡ (b && not (has_copy s.stay i window ds v))
+        by_taken true e = ap not (passed_over g keeps once pl e)
+        by_taken false e = refl
+
+    received_is : (g : RegistersSeen) → KeepsRegisters p v s.stay ds g → Once (message_at p.mode i).to → placed s.hyper.opening s.hyper.phase (is_own_slot p j i) ≡ true →
+        is_received g (copy_in (cond (is_own p v i) (Some slot_here) None)) (cond (is_own p v i) (Some message_here) None) ≡ (takes_on p i v && not (has_copy s.stay i window ds v))
+    received_is g keeps once pl = by_own (is_own p v i) refl
+      where
+        by_own : (b : Bool) → is_own p v i ≡ b → is_received g (copy_in (cond b (Some slot_here) None)) (cond b (Some message_here) None) ≡ (takes_on p i v && not (has_copy s.stay i window ds v))
+        by_own true e = takes_copy_is g keeps once pl
+        by_own false e = sym (ap (λ b. b && not (has_copy s.stay i window ds v)) (not_own (nat_eq sender v) (takes_on p i v) e).1)
+
+    -- where the slot is placed, a node takes the packet where a consumer of its message is on it, it heard the last beacon and it has no earlier copy
+    pub takes_is : (n : State) → EntryNode y v ds n → Once (message_at p.mode i).to → placed s.hyper.opening s.hyper.phase (is_own_slot p j i) ≡ true →
+        takes_now n place ≡ (takes_on p i v && (synced v ds && not (has_copy s.stay i window ds v)))
+    takes_is (Listens t) at once pl = sym (unheard (takes_on p i v) (synced v ds) (not (has_copy s.stay i window ds v)) (listens_unheard (synced v ds) (settled v ds) (coasts v ds) at.kind))
+    takes_is (Syncs r) at once pl =
+        let knows = knows_slot r at.table (at.place r refl) in
+        ap (λ o. is_received r.registers (copy_in o) (message_of_slot r place)) knows.slot
+        ∙ ap (is_received r.registers (copy_in (cond (is_own p v i) (Some slot_here) None))) (slot_message r knows)
+        ∙ received_is r.registers at.registers once pl
+        ∙ heard (takes_on p i v) (synced v ds) (not (has_copy s.stay i window ds v)) (synced_heard (announced r) (synced v ds) (settled v ds) (coasts v ds) at.kind)
+      where
+        heard : (a b c : Bool) → b ≡ true → (a && c) ≡ (a && (b && c))
+        heard a true c e = refl
+        heard a false c e = absurd cc
+    takes_is (Coasts r) at once pl = sym (unheard (takes_on p i v) (synced v ds) (not (has_copy s.stay i window ds v)) (coasts_unheard (synced v ds) (settled v ds) (coasts v ds) at.kind))

@@ -1,5 +1,5 @@
 -- A world after a slot
-use Rattle.std.proofs.Common.{◌≡◌, ℕ, zero, suc, ◌<◌, Bool, true, false, cond, ◌&&◌, ◌||◌, List, [], ◌∷◌, ◌++◌, length, get_or, refl, sym, ◌∙◌, ap, subst, arith, Contains, ℤ}
+use Rattle.std.proofs.Common.{◌≡◌, ℕ, zero, suc, ◌<◌, Bool, true, false, cond, not, ◌&&◌, ◌||◌, List, [], ◌∷◌, ◌++◌, length, get_or, refl, sym, ◌∙◌, ap, subst, arith, Contains, ℤ}
 use Rattle.std.specs.Prelude.{nat_eq, Option, Some, None, is_some}
 use Rattle.std.specs.List.{filter}
 use Rattle.std.proofs.lemmas.Bool.{eq-eqb}
@@ -14,8 +14,9 @@ use Rattle.runtime_model.specs.Entries.{slot}
 use Rattle.runtime_model.specs.Laws.{RequestsFit}
 use Rattle.runtime_model.specs.LookingBack.{synced}
 use Rattle.runtime_model.specs.Outcomes.{PlainEvent, advance, Step, Spot}
-use Rattle.runtime_model.specs.Packets.{packet, reached, takes, takes_on}
+use Rattle.runtime_model.specs.Packets.{has_copy, packet, reached, takes, takes_on}
 use Rattle.runtime_model.specs.NodeTables.{is_own, part_of}
+use Rattle.runtime_model.specs.Placement.{window_at}
 use Rattle.runtime_model.specs.Plans.{Plan, RightPlan, sender_of}
 use Rattle.runtime_model.specs.Script.{opens_round}
 use Rattle.runtime_model.specs.System.{System, plan_at}
@@ -38,12 +39,13 @@ use Rattle.world_core.specs.Worlds.{WorldSeen}
 use Rattle.world_core.specs.WorldSteps.{MayGive, MayPerform, after_slot, packet_from, performed, slot_told, told}
 use Rattle.world_core.proofs.Arriving.{entered, some_mode}
 use Rattle.world_core.proofs.BeaconEntries.{own_modes}
+use Rattle.world_core.proofs.Consumers.{Once}
 use Rattle.world_core.proofs.EndWorlds.{both_kept, fits_where}
 use Rattle.world_core.proofs.EntryWorlds.{nodes_there, entry_node, entry_fits, part_fits, finds, quiet_stands}
 use Rattle.world_core.proofs.KeptPlaces.{kept_place, may_use_slot, with_registers, same_itself, same_packet, same_where}
 use Rattle.world_core.proofs.NodeLimits.{has_room, packet_fits}
 use Rattle.world_core.proofs.NodeLoops.{first_sends, none_sends}
-use Rattle.world_core.proofs.PacketSteps.{may_receive, packet_ins, silent_ins, slot_out}
+use Rattle.world_core.proofs.PacketSteps.{may_receive, packet_ins, sent_placed, silent_ins, slot_out}
 use Rattle.world_core.proofs.RunSteps.{after_packet_runs, runs_kept, slot_runs}
 use Rattle.world_core.proofs.SlotSteps.{packet_with, place, sent_is, slot_carried, slot_right, takes_is}
 use Rattle.world_core.proofs.WorldRight.{RightWorld}
@@ -75,13 +77,11 @@ is_other a u l = grind (arith, l)
 own_sender : (a : ℕ) (b : Bool) → (nat_eq a a || b) ≡ true
 own_sender a b = ap (λ c. c || b) (eq-eqb a a refl)
 
-either_order : (r t s : Bool) → (r && (t && s)) ≡ (t && (s && r))
-either_order true true true = refl
-either_order true true false = refl
-either_order true false s = refl
-either_order false true true = refl
-either_order false true false = refl
-either_order false false s = refl
+either_order : (r t s q : Bool) → (r && (t && (s && q))) ≡ (t && (s && (r && q)))
+either_order true t s q = refl
+either_order false true true q = refl
+either_order false true false q = refl
+either_order false false s q = refl
 
 module _ (y : System) (w : RightWorld y) (es : List PlainEvent) (rf : RequestsFit y es) (lost : ℕ) (x : WorldSeen) (st : Stands y x (history y es))
     (j i : ℕ) (act : (entry_at y (spot_next y (history y es))).action ≡ slot j i) where
@@ -111,6 +111,14 @@ module _ (y : System) (w : RightWorld y) (es : List PlainEvent) (rf : RequestsFi
 
   abbrev of_values : List ℤ → Packet
   of_values xs = record { message = number; values = xs }
+
+  -- which nodes take the packet
+  abbrev taking : ℕ → Bool
+  taking = takes p s.stay lost sender i (window_at p s.turn j i) ds
+
+  -- no task consumes the message twice
+  once : Once (message_at p.mode i).to
+  once = w.consumers s.hyper.mode i (some_mode y w es rf lost) (slot_carried y w.plans es rf j i act).1
 
   quiet : opens_round (entry_at y s).action ≡ false
   quiet = ap opens_round act
@@ -178,7 +186,7 @@ module _ (y : System) (w : RightWorld y) (es : List PlainEvent) (rf : RequestsFi
         (kept_place y w v es rf lost quiet n m q (same_where (reached lost sender v) n (after_packet n slot_here (of_values xs)) (same_packet n slot_here (of_values xs))))
         (both_kept p v s.stay (d' ∷ ds) (registers_of m)
         (slot_runs y ds lost v j i (registers_of n) (registers_of m) act same.0 same.1 (runs_kept p v s.stay ds (registers_of n) q.registers))
-        (packet_ins y w.plans es rf j i act v (finds y w es rf lost x st v) n lost xs q l (has_room n (entry_fits y w es rf lost x st v l)) small e))
+        (packet_ins y w.plans es rf j i act v (finds y w es rf lost x st v) n lost xs q once l (has_room n (entry_fits y w es rf lost x st v l)) small e))
       where
         runs_where : (b : Bool) (n : State) → let new = registers_of (cond b (after_packet n slot_here (of_values xs)) n) in (new.outs ≡ (registers_of n).outs) × (new.run ≡ (registers_of n).run)
         runs_where true n = after_packet_runs n slot_here (of_values xs)
@@ -192,13 +200,13 @@ module _ (y : System) (w : RightWorld y) (es : List PlainEvent) (rf : RequestsFi
         (λ v l. subst StateFits (sym (given_at v l)) (fits_where (reached lost sender v) (at here.nodes v) (after_packet (at here.nodes v) slot_here (of_values xs)) (entry_fits y w es rf lost x st v l)
         (packet_fits (at here.nodes v) slot_here (of_values xs) (entry_fits y w es rf lost x st v l) (may_take v (omega (arith, l, nodes_there y w es rf lost x st))))))
 
-    pub takers_are : takers here.nodes slot_here lost sender ≡ filter (takes p lost sender i ds) (below y.nodes)
+    pub takers_are : takers here.nodes slot_here lost sender ≡ filter (taking) (below y.nodes)
     takers_are =
         ap (λ (n : ℕ). filter (λ v. reached lost sender v && takes_now (at here.nodes v) slot_here) (below n)) (nodes_there y w es rf lost x st)
-        ∙ same_kept (λ v. reached lost sender v && takes_now (at here.nodes v) slot_here) (takes p lost sender i ds) y.nodes
+        ∙ same_kept (λ v. reached lost sender v && takes_now (at here.nodes v) slot_here) (taking) y.nodes
         (λ v l.
-        ap (λ b. reached lost sender v && b) (takes_is y w.plans es rf j i act v (finds y w es rf lost x st v) (at here.nodes v) (entry_node y w es rf lost x st v l))
-        ∙ either_order (reached lost sender v) (takes_on p i v) (synced v ds))
+        ap (λ b. reached lost sender v && b) (takes_is y w.plans es rf j i act v (finds y w es rf lost x st v) (at here.nodes v) (entry_node y w es rf lost x st v l) once (sent_placed y w.plans es rf j i act xs e))
+        ∙ either_order (reached lost sender v) (takes_on p i v) (synced v ds) (not (has_copy s.stay i (window_at p s.turn j i) ds v)))
 
   -- ---- silence
 

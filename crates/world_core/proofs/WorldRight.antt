@@ -1,4 +1,5 @@
--- What the proofs of a world take of its system: right plans, few rounds in each, and what each node finds in its part of them
+-- What the proofs of a world take of its system: right plans, few rounds in each, what each node finds in its part of them,
+-- and that no task consumes a message twice
 use Rattle.std.proofs.Common.{ℕ, ◌<◌, ◌≤◌, List, ℤ, length, get_or, sym, subst, arith, ⊎_elim}
 use Rattle.std.specs.Prelude.{Option}
 use Rattle.std.proofs.lemmas.Bool.{cases_lt}
@@ -6,6 +7,7 @@ use Rattle.std.proofs.lemmas.List.{get_or_past}
 use Rattle.app_graph.specs.declared.mode_set.ModeSet.{ModeSet}
 use Rattle.app_graph.specs.Validation.{KeepsRules}
 use Rattle.sched_model.specs.declared.schedule.Schedule.{Schedule}
+use Rattle.sched_model.specs.PlainMode.{message_at}
 use Rattle.sched_model.proofs.Lists.{get_or-map_below}
 use Rattle.runtime_model.specs.Laws.{PlansAreRight, RequestsFit}
 use Rattle.runtime_model.specs.NodeTables.{part_of}
@@ -19,12 +21,14 @@ use Rattle.node_tables.specs.Parts.{typed_table}
 use Rattle.node_core.specs.PartLookups.{PartLooksUp}
 use Rattle.node_core.proofs.PartFinds.{parts_look_up}
 use Rattle.world_core.specs.Cycle.{FewRounds}
+use Rattle.world_core.proofs.Consumers.{Once, each_once}
 use Rattle.world_core.proofs.CycleLemmas.{few_rounds}
 
 pub record RightWorld (y : System) : Type 0 where
   pub plans : PlansAreRight y
   pub finds : (v m : ℕ) → m < length y.plans → PartLooksUp y.plans v m (plan_at y m) (typed_table (part_of y.plans v))
   pub few : (m : ℕ) → m < length y.plans → FewRounds (plan_at y m).schedule
+  pub consumers : (m i : ℕ) → m < length y.plans → i < length (plan_at y m).mode.messages → Once (message_at (plan_at y m).mode i).to
 
 -- the system of a set that keeps the rules with right schedules is such a one, whatever the bodies answer
 pub right_world : (set : ModeSet) (schedules : List Schedule) (answers : List Step → ℕ → List (Option ℤ) → ℤ) → KeepsRules set → AreSchedules set schedules → RightWorld (system_of set schedules answers)
@@ -36,6 +40,9 @@ right_world set schedules answers keeps are =
       few = λ m l.
           let l' : m < length set.modes = omega (arith, l, n) in
           subst (λ (p : Plan). FewRounds p.schedule) (sym (get_or-map_below (plan_of set schedules) (length set.modes) m no_plan l')) (few_rounds set m keeps l' (get_or schedules m no_schedule) (are.right m l'));
+      consumers = λ m i l.
+          let l' : m < length set.modes = omega (arith, l, n) in
+          subst (λ (p : Plan). i < length p.mode.messages → Once (message_at p.mode i).to) (sym (get_or-map_below (plan_of set schedules) (length set.modes) m no_plan l')) (each_once set keeps m l' i);
     }
 
 -- each mode with a right plan is one of the system's
