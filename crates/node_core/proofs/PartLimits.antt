@@ -42,7 +42,7 @@ use Rattle.node_tables.specs.declared.tables.OwnMessage.{OwnMessage}
 use Rattle.node_tables.specs.declared.tables.OwnTask.{OwnTask}
 use Rattle.node_tables.specs.OwnParts.{is_on, message_kept, message_part, message_rows, messages_kept, role_in, rounds_kept, rows_of, tasks_kept}
 use Rattle.node_tables.specs.Parts.{part_in, typed_message, typed_mode, typed_round, typed_task}
-use Rattle.node_tables.proofs.ModeParts.{mode_same}
+use Rattle.node_tables.proofs.ModeParts.{messages_same}
 use Rattle.node_tables.proofs.PartRanges as part
 use Rattle.node_tables.proofs.PartRanges.{contained_all, filter_all, filter_length, kept_all, map_all, mode_count, no_plan}
 use Rattle.node_tables.proofs.PlainParts.{kept}
@@ -246,9 +246,7 @@ module _ (set : ModeSet) (i : ℕ) (keeps : KeepsRules set) (l : i < length set.
   few_inputs first x =
       let apps = (mode_at set i).apps in
       let rows = rows_of apps in
-      subst (λ (y : ModeTable). input_count x y.messages ≤ 64)
-      (mode_same set i keeps l v s right first (pos (hyper m)) (tasks_kept rows s.tasks v) (messages_kept rows v apps) (map typed_round (own_rounds p v)) refl refl refl refl)
-      (inputs_few set i keeps l rows v x)
+      subst (λ (xs : List OwnMessage). input_count x xs ≤ 64) (messages_same set i keeps l v s) (inputs_few set i keeps l rows v x)
 
   -- ---- rounds
 
