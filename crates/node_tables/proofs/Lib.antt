@@ -5,6 +5,7 @@ pub mod Images
 pub mod PartLists
 pub mod PlainParts
 pub mod Numbering
+pub mod CopyCounts
 pub mod ModeParts
 pub mod WholeTables
 pub mod PartRanges

@@ -1,9 +1,9 @@
 -- What a node keeps of a mode, out of its applications, is its part of the mode's plan
-use Rattle.std.proofs.Common.{◌≡◌, ℕ, suc, ◌+◌, ◌-◌, ◌<◌, ◌≤◌, Bool, true, false, cond, not, ◌&&◌, ◌||◌, eqb, ltb, List, [], ◌∷◌, ◌++◌, length, get_or, map, filter, Contains, All, refl, sym, ◌∙◌, ap, subst, arith, ℤ, pos, ◌≤ℤ◌}
+use Rattle.std.proofs.Common.{◌≡◌, ℕ, suc, ◌+◌, ◌-◌, ◌<◌, ◌≤◌, Bool, true, false, cond, not, ◌&&◌, ◌||◌, eqb, ltb, List, [], ◌∷◌, ◌++◌, length, get_or, map, filter, Contains, All, refl, sym, ◌∙◌, ap, subst, arith, ℤ, pos, ◌+ℤ◌, ◌≤ℤ◌}
 use Rattle.std.specs.List.{flat_map, list_any, AllByRecursion}
 use Rattle.std.proofs.lemmas.Bool.{eqb-true, lt-ltb}
 use Rattle.std.proofs.lemmas.List.{get_or-map, length-map, map-append}
-use Rattle.std.proofs.lemmas.List.Elements.{All-get_or}
+use Rattle.std.proofs.lemmas.List.Elements.{All-get_or, All-contains}
 use Rattle.std.proofs.lemmas.Grind.{flat_map-append}
 use Rattle.app_graph.specs.declared.mode_set.ModeSet.{ModeSet}
 use Rattle.app_graph.specs.declared.mode_set.App.{App}
@@ -20,7 +20,7 @@ use Rattle.sched_model.specs.Rounds.{round_start}
 use Rattle.sched_model.specs.Rows.{TaskIn, MessageIn, no_app, tasks_in, messages_in, task_in, row_of, place_in, ShowsTask, ShowsMessage}
 use Rattle.sched_model.specs.TimeLimits.{HasTimes}
 use Rattle.sched_model.specs.ValidMode.{IsValid}
-use Rattle.sched_model.proofs.Graph.{message_edge}
+use Rattle.sched_model.proofs.Graph.{contains_has, message_edge}
 use Rattle.sched_model.proofs.KeptSets.{mode_at_valid}
 use Rattle.sched_model.proofs.LimitedModes.{mode_at_limited}
 use Rattle.sched_model.proofs.Passing.{all_by_place}
@@ -29,7 +29,10 @@ use Rattle.sched_model.proofs.Times.{times}
 use Rattle.runtime_model.specs.NodeTables.{PlainOwnTask, PlainOwnMessage, PlainOwnSlot, PlainOwnRound, own_tasks, own_messages, own_slots, own_rounds, numbers, is_own}
 use Rattle.runtime_model.specs.Packets.{takes_on}
 use Rattle.runtime_model.specs.Placement.{release}
-use Rattle.runtime_model.specs.Plans.{Plan, offset, node_of, place_from, sender_of}
+use Rattle.runtime_model.specs.Plans.{Plan, Carried, offset, node_of, place_from, sender_of}
+use Rattle.runtime_model.specs.Copies.{copy_of, copy_at}
+use Rattle.runtime_model.proofs.CopyNumbers.{copies_are_numbered}
+use Rattle.runtime_model.proofs.RightSets.{right_plan}
 use Rattle.runtime_model.proofs.Times.{natural_is, place_is}
 use Rattle.node_tables.specs.declared.rows.MessageRow.{MessageRow}
 use Rattle.node_tables.specs.declared.tables.ModeTable.{ModeTable}
@@ -37,8 +40,8 @@ use Rattle.node_tables.specs.declared.tables.OwnTask.{OwnTask}
 use Rattle.node_tables.specs.declared.tables.OwnMessage.{OwnMessage}
 use Rattle.node_tables.specs.declared.tables.OwnRound.{OwnRound}
 use Rattle.node_tables.specs.declared.tables.OwnSlot.{OwnSlot}
-use Rattle.node_tables.specs.OwnParts.{row_in, rows_of, no_row, first_task, is_on, task_part, tasks_kept, sent_from, role_of, role_in, message_part, messages_kept, message_row, message_rows, no_message_row, first_message, release_in, slot_part, round_kept, rounds_kept}
-use Rattle.node_tables.specs.PartLimits.{FewSlots, HasSizes, IsMessageRow, IsTaskRow}
+use Rattle.node_tables.specs.OwnParts.{row_in, rows_of, no_row, first_task, is_on, task_part, tasks_kept, sent_from, role_of, role_in, message_part, messages_kept, message_row, message_rows, no_message_row, first_message, release_in, slot_kept, slot_part, round_kept, rounds_kept}
+use Rattle.node_tables.specs.PartLimits.{FewCopies, FewSlots, HasSizes, IsMessageRow, IsTaskRow}
 use Rattle.node_tables.specs.Parts.{part_in, typed_task, typed_message, typed_slot, typed_round, typed_mode}
 use Rattle.node_tables.proofs.Numbering.{Numbered, numbered}
 use Rattle.node_tables.proofs.PlainParts.{flat_same, map_same, flat_first, flat_places, kept}
@@ -117,6 +120,9 @@ module _ (set : ModeSet) (i : ℕ) (keeps : KeepsRules set) (l : i < length set.
 
   lim : IsLimited m
   lim = mode_at_limited set keeps i l
+
+  pub hyper_most : hyper m ≤ 1000000000000
+  hyper_most = ok.hyper_limit
 
   pub rows_count : length rows ≡ length m.tasks
   rows_count = ap length (rows_are apps) ∙ length-map ts row_of ∙ sym (task_count set i)
@@ -346,6 +352,7 @@ module _ (set : ModeSet) (i : ℕ) (keeps : KeepsRules set) (l : i < length set.
     record Placed (n : ℕ) : Type 0 where
       pub within : place_from 0 m.messages n < length m.messages
       pub is : n - first_message mrows ≡ place_from 0 m.messages n
+      pub number : (message_at m (place_from 0 m.messages n)).number ≡ n
 
     placed : (n : ℕ) → IsMessage m n → Placed n
     placed n c =
@@ -355,37 +362,51 @@ module _ (set : ModeSet) (i : ℕ) (keeps : KeepsRules set) (l : i < length set.
         let nums = numbered set keeps i l in
         let f = first_message_is nums (omega (arith, h)) in
         let at = nums.messages k.0 k.2 in
-        record { within = omega (arith, k.1, k.2); is = omega (arith, f, at, k.1, k.3) }
+        let here : place_from 0 m.messages n ≡ k.0 = omega (arith, k.1) in
+        record { within = omega (arith, k.1, k.2); is = omega (arith, f, at, k.1, k.3); number = ap (λ (z : ℕ). (message_at m z).number) here ∙ k.3 }
+
+    abbrev slot_at : ℕ → ℕ → ℕ → PlainOwnSlot
+    slot_at j c n = let a = place_from 0 m.messages n in record { slot = c; message = n; release = release p j a; copy = copy_at p j a }
 
     abbrev own_slot : ℕ → ℕ → ℕ → List PlainOwnSlot
-    own_slot j c n =
-        let a = place_from 0 m.messages n in
-        cond (is_own p v a) (record { slot = c; message = n; release = release p j a } ∷ []) []
+    own_slot j c n = cond (is_own p v (place_from 0 m.messages n)) (slot_at j c n ∷ []) []
 
-    slot_same : (j c n : ℕ) → IsMessage m n → slot_part mrows s j c n ≡ map typed_slot (own_slot j c n)
+    kept_same : (j c n : ℕ) → IsMessage m n → slot_kept mrows s (hyper m) j c n ≡ typed_slot (slot_at j c n)
+    kept_same j c n known =
+        let pl = placed n known in
+        let a = place_from 0 m.messages n in
+        let start = get_or s.starts j (pos 0) in
+        let made = λ (number : ℕ) (opens : ℤ) (period : ℕ).
+        let r = release_in start opens period in
+        let y : OwnSlot = record { slot = c; message = n; release = r; copy = copy_of s (hyper m) number (opens +ℤ r) start } in y in
+        let opens = (get_or s.messages a (pos 0, pos 0)).0 in
+        ap (λ (z : ℕ). made n (get_or s.messages z (pos 0, pos 0)).0 (get_or mrows z no_message_row).period) pl.is
+        ∙ ap (λ (z : ℕ). made n opens z) (mrow_period a pl.within)
+        ∙ ap (λ (z : ℕ). made z opens (message_at m a).period) (sym pl.number)
+
+    slot_same : (j c n : ℕ) → IsMessage m n → slot_part mrows s (hyper m) j c n ≡ map typed_slot (own_slot j c n)
     slot_same j c n known =
         let pl = placed n known in
         let a = place_from 0 m.messages n in
-        let made = λ (per : ℕ). let y : OwnSlot = record { slot = c; message = n; release = release_in (get_or s.starts j (pos 0)) (get_or s.messages a (pos 0, pos 0)).0 per } in y in
-        let per = (get_or mrows a no_message_row).period in
-        ap (λ (z : ℕ). cond (ltb z (length mrows) && not (eqb (get_or mrows z no_message_row).role 0))
-        (let y : OwnSlot = record { slot = c; message = n; release = release_in (get_or s.starts j (pos 0)) (get_or s.messages z (pos 0, pos 0)).0 (get_or mrows z no_message_row).period } in y ∷ []) []) pl.is
-        ∙ ap (λ (b : Bool). cond (b && not (eqb (get_or mrows a no_message_row).role 0)) (made per ∷ []) []) (lt-ltb _ _ (omega (arith, pl.within, mrows_count)))
-        ∙ ap (λ (z : ℕ). cond (not (eqb z 0)) (made per ∷ []) []) (ap (λ (x : MessageRow). x.role) (mrow_at a pl.within) ∙ role_same a pl.within)
-        ∙ ap (λ (b : Bool). cond b (made per ∷ []) []) (own_test (eqb (sender_of p a) v) (takes_on p a v))
-        ∙ ap (λ (z : ℕ). cond (is_own p v a) (made z ∷ []) []) (mrow_period a pl.within)
-        ∙ slot_typed (is_own p v a) (record { slot = c; message = n; release = release p j a })
+        let i' = n - first_message mrows in
+        let y = typed_slot (slot_at j c n) in
+        ap (λ (x : OwnSlot). cond (ltb i' (length mrows) && not (eqb (get_or mrows i' no_message_row).role 0)) (x ∷ []) []) (kept_same j c n known)
+        ∙ ap (λ (z : ℕ). cond (ltb z (length mrows) && not (eqb (get_or mrows z no_message_row).role 0)) (y ∷ []) []) pl.is
+        ∙ ap (λ (b : Bool). cond (b && not (eqb (get_or mrows a no_message_row).role 0)) (y ∷ []) []) (lt-ltb _ _ (omega (arith, pl.within, mrows_count)))
+        ∙ ap (λ (z : ℕ). cond (not (eqb z 0)) (y ∷ []) []) (ap (λ (x : MessageRow). x.role) (mrow_at a pl.within) ∙ role_same a pl.within)
+        ∙ ap (λ (b : Bool). cond b (y ∷ []) []) (own_test (eqb (sender_of p a) v) (takes_on p a v))
+        ∙ slot_typed (is_own p v a) (slot_at j c n)
 
     slots_from : (j c : ℕ) (table : List ℕ) → AllByRecursion (IsMessage m) table →
-        flat_map (λ k. slot_part mrows s j (k + c) (get_or table k 0)) (below (length table)) ≡ map typed_slot (own_slots p v j c table)
+        flat_map (λ k. slot_part mrows s (hyper m) j (k + c) (get_or table k 0)) (below (length table)) ≡ map typed_slot (own_slots p v j c table)
     slots_from j c [] h = refl
     slots_from j c (n ∷ table) h =
-        flat_first (λ k. slot_part mrows s j (k + c) (get_or (n ∷ table) k 0)) (length table)
-        ∙ ap (λ (x : List OwnSlot). x ++ flat_map (λ k. slot_part mrows s j (suc k + c) (get_or table k 0)) (below (length table)))
-        (ap (λ (z : ℕ). slot_part mrows s j z n) (let e : 0 + c ≡ c = omega arith in e) ∙ slot_same j c n h.0)
+        flat_first (λ k. slot_part mrows s (hyper m) j (k + c) (get_or (n ∷ table) k 0)) (length table)
+        ∙ ap (λ (x : List OwnSlot). x ++ flat_map (λ k. slot_part mrows s (hyper m) j (suc k + c) (get_or table k 0)) (below (length table)))
+        (ap (λ (z : ℕ). slot_part mrows s (hyper m) j z n) (let e : 0 + c ≡ c = omega arith in e) ∙ slot_same j c n h.0)
         ∙ ap (λ (x : List OwnSlot). map typed_slot (own_slot j c n) ++ x)
-        (flat_same (λ k. slot_part mrows s j (suc k + c) (get_or table k 0)) (λ k. slot_part mrows s j (k + suc c) (get_or table k 0)) (length table)
-        (λ k lk. ap (λ (z : ℕ). slot_part mrows s j z (get_or table k 0)) (let e : suc k + c ≡ k + suc c = omega arith in e))
+        (flat_same (λ k. slot_part mrows s (hyper m) j (suc k + c) (get_or table k 0)) (λ k. slot_part mrows s (hyper m) j (k + suc c) (get_or table k 0)) (length table)
+        (λ k lk. ap (λ (z : ℕ). slot_part mrows s (hyper m) j z (get_or table k 0)) (let e : suc k + c ≡ k + suc c = omega arith in e))
         ∙ slots_from j (suc c) table h.1)
         ∙ sym (map-append typed_slot (own_slot j c n) (own_slots p v j (suc c) table))
 
@@ -402,8 +423,20 @@ module _ (set : ModeSet) (i : ℕ) (keeps : KeepsRules set) (l : i < length set.
             omega (arith, t.slots, lim.slots));
       }
 
+      pub few_copies : FewCopies mrows s (hyper m)
+      few_copies j n h carries =
+          let table = get_or s.tables j [] in
+          let known : IsMessage m n = All-contains (IsMessage m) table n (All-get_or (λ table. All (IsMessage m) table) s.tables j [] (omega (arith, h, right.shape.tables)) right.shape.numbers) carries in
+          let pl = placed n known in
+          let a = place_from 0 m.messages n in
+          let carried : Carried p j a = (h, pl.within, contains_has table _ (subst (λ (z : ℕ). Contains table z) (sym pl.number) carries)) in
+          let most : copy_at p j a ≤ (message_at m a).copies = (copies_are_numbered (length set.nodes) p j a (right_plan set i keeps l s right) carried).1 in
+          let four : (message_at m a).copies ≤ 4 = lim.copies a pl.within in
+          let same : (slot_kept mrows s (hyper m) j 0 n).copy ≡ copy_at p j a = ap (λ (x : OwnSlot). x.copy) (kept_same j 0 n known) in
+          subst (λ (x : ℕ). x ≤ 4) (sym same) (omega (arith, most, four))
+
       round_same : (j : ℕ) → j < length s.starts →
-          round_kept mrows s j ≡ typed_round (record { start = natural (round_start s j); slots = own_slots p v j 1 (get_or s.tables j []) })
+          round_kept mrows s (hyper m) j ≡ typed_round (record { start = natural (round_start s j); slots = own_slots p v j 1 (get_or s.tables j []) })
       round_same j h =
           let known = All-get_or (λ table. All (IsMessage m) table) s.tables j [] (omega (arith, h, right.shape.tables)) right.shape.numbers in
           let low = (All-get_or (λ z. (pos 0 ≤ℤ z) × (z ≤ℤ pos 2000000000000)) s.starts j (pos 0) h times_are.starts).0 in
@@ -422,17 +455,17 @@ module _ (set : ModeSet) (i : ℕ) (keeps : KeepsRules set) (l : i < length set.
       typed_map f [] = refl
       typed_map f (x ∷ xs) = ap (λ (ys : List OwnRound). typed_round (f x) ∷ ys) (typed_map f xs)
 
-      pub rounds_same : rounds_kept mrows s ≡ map typed_round (own_rounds p v)
+      pub rounds_same : rounds_kept mrows s (hyper m) ≡ map typed_round (own_rounds p v)
       rounds_same =
           let f = λ (j : ℕ). let y : PlainOwnRound = record { start = natural (round_start s j); slots = own_slots p v j 1 (get_or s.tables j []) } in y in
-          map_same (round_kept mrows s) (λ j. typed_round (f j)) (length s.starts) round_same ∙ typed_map f (below (length s.starts))
+          map_same (round_kept mrows s (hyper m)) (λ j. typed_round (f j)) (length s.starts) round_same ∙ typed_map f (below (length s.starts))
 
       offsets_from_zero : (a : ℕ) → a < length m.tasks → pos 0 ≤ℤ get_or s.tasks a (pos 0)
       offsets_from_zero a h = (right.s3 a h).from_zero
 
       -- what is kept is the part
       pub mode_same : (first : ℕ) (h : ℤ) (own : List OwnTask) (messages : List OwnMessage) (rounds : List OwnRound) → h ≡ pos (hyper m)
-          → own ≡ tasks_kept rows s.tasks v → messages ≡ messages_kept rows v apps → rounds ≡ rounds_kept mrows s
+          → own ≡ tasks_kept rows s.tasks v → messages ≡ messages_kept rows v apps → rounds ≡ rounds_kept mrows s (hyper m)
           → let y : ModeTable = record { hyper = h; first_round = first; tasks = own; messages = messages; rounds = rounds } in y ≡ typed_mode (part_in first v p)
       mode_same first h own messages rounds e1 e2 e3 e4 =
           let made = λ (h : ℤ) (own : List OwnTask) (messages : List OwnMessage) (rounds : List OwnRound). let y : ModeTable = record { hyper = h; first_round = first; tasks = own; messages = messages; rounds = rounds } in y in

@@ -25,12 +25,15 @@ use Rattle.sched_model.proofs.Times.{times}
 use Rattle.runtime_model.specs.NodeTables.{PlainOwnTask, PlainOwnMessage, PlainOwnSlot, PlainOwnRound, own_tasks, own_messages, own_slots, own_rounds, numbers, is_own, mode_tables, part_of}
 use Rattle.runtime_model.specs.Packets.{takes_on}
 use Rattle.runtime_model.specs.Placement.{release}
+use Rattle.runtime_model.specs.Copies.{copy_at}
+use Rattle.runtime_model.proofs.CopyNumbers.{copies_are_numbered}
 use Rattle.runtime_model.specs.Plans.{Plan, RightPlan, Carried, offset, node_of, place_from, no_schedule, plan_of, plans_of, sender_of, AreSchedules}
 use Rattle.runtime_model.specs.Timeline.{steady}
 use Rattle.runtime_model.proofs.Times.{natural_is, place_is, is_release, slot_window, window_is}
 use Rattle.node_tables.specs.declared.tables.OwnTask.{OwnTask}
 use Rattle.node_tables.specs.declared.tables.OwnMessage.{OwnMessage}
 use Rattle.node_tables.specs.Fields.{AreInRange, IsInRange}
+use Rattle.node_tables.specs.declared.version.Version.TheVariants.{Second}
 use Rattle.node_tables.specs.Image.{slot_fields, round_fields, task_field, message_fields, task_fields, mode_fields}
 use Rattle.node_tables.specs.Image as images
 use Rattle.node_tables.specs.Parts.{part_in, typed_task, typed_message, typed_slot, typed_round, typed_mode, typed_table}
@@ -206,7 +209,7 @@ module _ (set : ModeSet) (i : ℕ) (keeps : KeepsRules set) (l : i < length set.
       let h = hyper_bound j c.0 in
       (omega (arith, ints, is, ok.hyper_limit), omega (arith, ints, rel.opens_before, o.0, h, ok.hyper_limit))
 
-  slot_range : (j : ℕ) → j < length s.starts → (c n : ℕ) → 1 ≤ c → c ≤ 32 → Contains (get_or s.tables j []) n → AreInRange (slot_fields (record { slot = c; message = n; release = release p j (place_from 0 m.messages n) }))
+  slot_range : (j : ℕ) → j < length s.starts → (c n : ℕ) → 1 ≤ c → c ≤ 32 → Contains (get_or s.tables j []) n → AreInRange (slot_fields Second (record { slot = c; message = n; release = release p j (place_from 0 m.messages n); copy = copy_at p j (place_from 0 m.messages n) }))
   slot_range j h c n some most has_n =
       let known = All-get_or (λ table. All (IsMessage m) table) s.tables j [] (omega (arith, h, right.shape.tables)) right.shape.numbers in
       let is = All-contains (IsMessage m) (get_or s.tables j []) n known has_n in
@@ -218,21 +221,23 @@ module _ (set : ModeSet) (i : ℕ) (keeps : KeepsRules set) (l : i < length set.
       let same : (message_at m (place_from 0 m.messages n)).number ≡ n = ap (λ (z : ℕ). (message_at m z).number) at ∙ k.3 in
       let carried : Carried p j (place_from 0 m.messages n) = (h, within, contains_has (get_or s.tables j []) _ (subst (λ (z : ℕ). Contains (get_or s.tables j []) z) (sym same) has_n)) in
       let r = release_range j (place_from 0 m.messages n) carried in
-      ((some, most), ((omega arith, omega (arith, same, message_number _ within)), ((r.0, r.1), tt)))
+      let number = copies_are_numbered (length set.nodes) p j (place_from 0 m.messages n) whole carried in
+      let four : (message_at m (place_from 0 m.messages n)).copies ≤ 4 = lim.copies (place_from 0 m.messages n) within in
+      ((some, most), ((omega arith, omega (arith, same, message_number _ within)), ((r.0, r.1), ((number.0, omega (arith, number.1, four)), tt))))
 
   abbrev slot_at : ℕ → ℕ → ℕ → PlainOwnSlot
-  slot_at j c n = record { slot = c; message = n; release = release p j (place_from 0 m.messages n) }
+  slot_at j c n = record { slot = c; message = n; release = release p j (place_from 0 m.messages n); copy = copy_at p j (place_from 0 m.messages n) }
 
   slots_range : (j : ℕ) → j < length s.starts → (table : List ℕ) (c : ℕ) → 1 ≤ c → c + length table ≤ 33 → ((n : ℕ) → Contains table n → Contains (get_or s.tables j []) n) →
-      AreInRange (flat_map slot_fields (map typed_slot (own_slots p v j c table)))
+      AreInRange (flat_map (slot_fields Second) (map typed_slot (own_slots p v j c table)))
   slots_range j h [] c some room from = tt
   slots_range j h (n ∷ table) c some room from =
       let here = slot_range j h c n some (omega (arith, room)) (from n (0, omega arith, refl)) in
       by_test (is_own p v (place_from 0 m.messages n)) here (slots_range j h table (suc c) (omega arith) (omega (arith, room)) (λ x k. from x (suc k.0, omega (arith, k.1), k.2)))
     where
-      by_test : (b : Bool) → AreInRange (slot_fields (typed_slot (slot_at j c n))) → AreInRange (flat_map slot_fields (map typed_slot (own_slots p v j (suc c) table))) →
-          AreInRange (flat_map slot_fields (map typed_slot (cond b (slot_at j c n ∷ []) [] ++ own_slots p v j (suc c) table)))
-      by_test true here rest = all_both IsInRange (slot_fields (typed_slot (slot_at j c n))) _ here rest
+      by_test : (b : Bool) → AreInRange (slot_fields Second (typed_slot (slot_at j c n))) → AreInRange (flat_map (slot_fields Second) (map typed_slot (own_slots p v j (suc c) table))) →
+          AreInRange (flat_map (slot_fields Second) (map typed_slot (cond b (slot_at j c n ∷ []) [] ++ own_slots p v j (suc c) table)))
+      by_test true here rest = all_both IsInRange (slot_fields Second (typed_slot (slot_at j c n))) _ here rest
       by_test false here rest = rest
 
   slots_few : (j : ℕ) (table : List ℕ) (c : ℕ) → length (map typed_slot (own_slots p v j c table)) ≤ length table
@@ -240,14 +245,14 @@ module _ (set : ModeSet) (i : ℕ) (keeps : KeepsRules set) (l : i < length set.
   slots_few j (n ∷ table) c = by_test (is_own p v (place_from 0 m.messages n)) (slots_few j table (suc c))
     where
       by_test : (b : Bool) → length (map typed_slot (own_slots p v j (suc c) table)) ≤ length table →
-          length (map typed_slot (cond b (record { slot = c; message = n; release = release p j (place_from 0 m.messages n) } ∷ []) [] ++ own_slots p v j (suc c) table)) ≤ suc (length table)
+          length (map typed_slot (cond b (record { slot = c; message = n; release = release p j (place_from 0 m.messages n); copy = copy_at p j (place_from 0 m.messages n) } ∷ []) [] ++ own_slots p v j (suc c) table)) ≤ suc (length table)
       by_test true h = omega (arith, h)
       by_test false h = omega (arith, h)
 
   abbrev pub own_round : ℕ → PlainOwnRound
   own_round j = record { start = natural (round_start s j); slots = own_slots p v j 1 (get_or s.tables j []) }
 
-  round_range : (j : ℕ) → j < length s.starts → AreInRange (round_fields (typed_round (own_round j)))
+  round_range : (j : ℕ) → j < length s.starts → AreInRange (round_fields Second (typed_round (own_round j)))
   round_range j h =
       let t = All-get_or IsTime s.starts j (pos 0) h time.starts in
       let z = natural_is (round_start s j) t.0 in
@@ -261,15 +266,15 @@ module _ (set : ModeSet) (i : ℕ) (keeps : KeepsRules set) (l : i < length set.
         ),
       )
 
-  rounds_range : AreInRange (flat_map round_fields (map typed_round (own_rounds p v)))
+  rounds_range : AreInRange (flat_map (round_fields Second) (map typed_round (own_rounds p v)))
   rounds_range =
-      flat_all IsInRange round_fields (map typed_round (own_rounds p v))
-      (map_all (λ x. AreInRange (round_fields x)) typed_round (own_rounds p v) (map_all (λ r. AreInRange (round_fields (typed_round r))) own_round (below (length s.starts)) (below_all _ (length s.starts) round_range)))
+      flat_all IsInRange (round_fields Second) (map typed_round (own_rounds p v))
+      (map_all (λ x. AreInRange (round_fields Second x)) typed_round (own_rounds p v) (map_all (λ r. AreInRange (round_fields Second (typed_round r))) own_round (below (length s.starts)) (below_all _ (length s.starts) round_range)))
 
   pub rounds_count : length (map typed_round (own_rounds p v)) ≡ length s.starts
   rounds_count = length-map (own_rounds p v) typed_round ∙ length-map (below (length s.starts)) own_round ∙ length-below (length s.starts)
 
-  pub mode_range : (first : ℕ) → 1 ≤ first → first ≤ 2048 → AreInRange (mode_fields (typed_mode (part_in first v p)))
+  pub mode_range : (first : ℕ) → 1 ≤ first → first ≤ 2048 → AreInRange (mode_fields Second (typed_mode (part_in first v p)))
   mode_range first some most =
       let r = rounds_few set i keeps l s right in (
         (omega (arith, ints, hyper_some m), omega (arith, ints, ok.hyper_limit)),
@@ -296,14 +301,14 @@ no_plan = record { mode = record { slots = 0; round = 0; gap = 0; periods = []; 
 -- a plan has at most 256 rounds, and its part is in range whatever its first round's number
 record InPlace (v : ℕ) (p : Plan) : Type 0 where
   pub rounds : length p.schedule.starts ≤ 256
-  pub range : (first : ℕ) → 1 ≤ first → first ≤ 2048 → AreInRange (mode_fields (typed_mode (part_in first v p)))
+  pub range : (first : ℕ) → 1 ≤ first → first ≤ 2048 → AreInRange (mode_fields Second (typed_mode (part_in first v p)))
 
 modes_range : (v : ℕ) (ps : List Plan) (k first : ℕ) → k + length ps ≤ 8 → 1 ≤ first → first ≤ 256 * k + 1 → ((j : ℕ) → j < length ps → InPlace v (get_or ps j no_plan)) →
-    AreInRange (flat_map mode_fields (map typed_mode (mode_tables v first ps)))
+    AreInRange (flat_map (mode_fields Second) (map typed_mode (mode_tables v first ps)))
 modes_range v [] k first room some most h = tt
 modes_range v (p ∷ ps) k first room some most h =
     let here = h 0 (omega arith) in
-    all_both IsInRange (mode_fields (typed_mode (part_in first v p))) _ (here.range first some (omega (arith, most, room)))
+    all_both IsInRange (mode_fields Second (typed_mode (part_in first v p))) _ (here.range first some (omega (arith, most, room)))
     (modes_range v ps (suc k) (first + length p.schedule.starts) (omega (arith, room)) (omega (arith, some)) (omega (arith, most, here.rounds)) (λ j l. h (suc j) (omega (arith, l))))
 
 pub mode_count : (v : ℕ) (ps : List Plan) (first : ℕ) → length (map typed_mode (mode_tables v first ps)) ≡ length ps

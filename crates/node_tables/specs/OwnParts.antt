@@ -1,6 +1,6 @@
 -- A node's part of one mode out of the mode's applications and its schedule. Tasks and messages of a mode have numbers that follow
 -- each other, so that a number less the first one is a place
-use Rattle.std.specs.Prelude.{ℕ, ◌+◌, ◌-◌, Bool, false, cond, not, ◌&&◌, nat_eq, nat_lt, List, [], ◌∷◌, length, map, filter, slice_index_or, unsigned_abs, ℤ, pos, ◌-ℤ◌, ◌*ℤ◌}
+use Rattle.std.specs.Prelude.{ℕ, ◌+◌, ◌-◌, Bool, false, cond, not, ◌&&◌, nat_eq, nat_lt, List, [], ◌∷◌, length, map, filter, slice_index_or, unsigned_abs, ℤ, pos, ◌+ℤ◌, ◌-ℤ◌, ◌*ℤ◌, int_le}
 use Rattle.std.specs.Int.{int_div_euclid}
 use Rattle.std.specs.List.{flat_map, list_any}
 use Rattle.app_graph.specs.declared.mode_set.App.{App}
@@ -8,8 +8,10 @@ use Rattle.app_graph.specs.declared.mode_set.Task.{Task}
 use Rattle.app_graph.specs.declared.mode_set.Message.{Message}
 use Rattle.sched_model.specs.declared.rows.TaskRow.{TaskRow}
 use Rattle.sched_model.specs.declared.schedule.Schedule.{Schedule}
-use Rattle.sched_model.specs.Numbers.{below}
+use Rattle.sched_model.specs.Numbers.{below, has}
 use Rattle.sched_model.specs.Rows.{row_of}
+use Rattle.sched_model.specs.ServedCounts.{one_if}
+use Rattle.runtime_model.specs.Copies.{copy_of}
 use Rattle.node_tables.specs.declared.rows.MessageRow.{MessageRow}
 use Rattle.node_tables.specs.declared.tables.ModeTable.{ModeTable}
 use Rattle.node_tables.specs.declared.tables.OwnTask.{OwnTask}
@@ -102,28 +104,42 @@ first_message (m ∷ ms) = m.number
 abbrev pub release_in : ℤ → ℤ → ℕ → ℤ
 release_in start opens period = int_div_euclid (start -ℤ opens) (pos period) *ℤ pos period
 
+-- The round at place j has the message with number n and starts from one moment to another, where a hyperperiod begins at this moment
+abbrev pub counts : Schedule → ℕ → ℤ → ℤ → ℤ → ℕ → Bool
+counts schedule n begin low high j =
+    let t = begin +ℤ slice_index_or schedule.starts j (pos 0) in
+    has (slice_index_or schedule.tables j []) n && (int_le low t && int_le t high)
+
+-- how often it does in the hyperperiod from moment 0 on and in the one before
+abbrev pub counted_at : Schedule → ℕ → ℕ → ℤ → ℤ → ℕ → ℕ
+counted_at schedule hyper n low high j =
+    one_if (counts schedule n (pos 0 -ℤ pos hyper) low high j) + one_if (counts schedule n (pos 0) low high j)
+
 -- slot s of the round at place j has the message with number n
-abbrev pub slot_kept : List MessageRow → Schedule → ℕ → ℕ → ℕ → OwnSlot
-slot_kept messages schedule j s n =
+abbrev pub slot_kept : List MessageRow → Schedule → ℕ → ℕ → ℕ → ℕ → OwnSlot
+slot_kept messages schedule hyper j s n =
     let i = n - first_message messages in
-    record { slot = s; message = n; release = release_in (slice_index_or schedule.starts j (pos 0)) (slice_index_or schedule.messages i (pos 0, pos 0)).0 (slice_index_or messages i no_message_row).period }
+    let start = slice_index_or schedule.starts j (pos 0) in
+    let opens = (slice_index_or schedule.messages i (pos 0, pos 0)).0 in
+    let release = release_in start opens (slice_index_or messages i no_message_row).period in
+    record { slot = s; message = n; release = release; copy = copy_of schedule hyper n (opens +ℤ release) start }
 
 -- the slot, if it has an own message
-abbrev pub slot_part : List MessageRow → Schedule → ℕ → ℕ → ℕ → List OwnSlot
-slot_part messages schedule j s n =
+abbrev pub slot_part : List MessageRow → Schedule → ℕ → ℕ → ℕ → ℕ → List OwnSlot
+slot_part messages schedule hyper j s n =
     let i = n - first_message messages in
-    cond (nat_lt i (length messages) && not (nat_eq (slice_index_or messages i no_message_row).role 0)) (slot_kept messages schedule j s n ∷ []) []
+    cond (nat_lt i (length messages) && not (nat_eq (slice_index_or messages i no_message_row).role 0)) (slot_kept messages schedule hyper j s n ∷ []) []
 
 -- the own slots of the round at place j, which has this table
-abbrev pub slots_kept : List MessageRow → Schedule → ℕ → List ℕ → List OwnSlot
-slots_kept messages schedule j table = flat_map (λ k. slot_part messages schedule j (k + 1) (slice_index_or table k 0)) (below (length table))
+abbrev pub slots_kept : List MessageRow → Schedule → ℕ → ℕ → List ℕ → List OwnSlot
+slots_kept messages schedule hyper j table = flat_map (λ k. slot_part messages schedule hyper j (k + 1) (slice_index_or table k 0)) (below (length table))
 
 -- the round at place j
-abbrev pub round_kept : List MessageRow → Schedule → ℕ → OwnRound
-round_kept messages s j = record { start = slice_index_or s.starts j (pos 0); slots = slots_kept messages s j (slice_index_or s.tables j []) }
+abbrev pub round_kept : List MessageRow → Schedule → ℕ → ℕ → OwnRound
+round_kept messages s hyper j = record { start = slice_index_or s.starts j (pos 0); slots = slots_kept messages s hyper j (slice_index_or s.tables j []) }
 
-abbrev pub rounds_kept : List MessageRow → Schedule → List OwnRound
-rounds_kept messages s = map (round_kept messages s) (below (length s.starts))
+abbrev pub rounds_kept : List MessageRow → Schedule → ℕ → List OwnRound
+rounds_kept messages s hyper = map (round_kept messages s hyper) (below (length s.starts))
 
 -- ---- the mode
 
@@ -136,5 +152,5 @@ mode_kept apps hyper s first v =
       first_round = first;
       tasks = tasks_kept tasks s.tasks v;
       messages = messages_kept tasks v apps;
-      rounds = rounds_kept (message_rows tasks v apps) s;
+      rounds = rounds_kept (message_rows tasks v apps) s (unsigned_abs hyper);
     }

@@ -1,8 +1,9 @@
 -- How large the parts of a mode are that a node's table is made of
-use Rattle.std.specs.Prelude.{◌≡◌, ℕ, ◌≤◌, All, List, length}
+use Rattle.std.specs.Prelude.{◌≡◌, ℕ, ◌<◌, ◌≤◌, All, Contains, List, [], length, slice_index_or}
 use Rattle.sched_model.specs.declared.rows.TaskRow.{TaskRow}
 use Rattle.sched_model.specs.declared.schedule.Schedule.{Schedule}
 use Rattle.node_tables.specs.declared.rows.MessageRow.{MessageRow}
+use Rattle.node_tables.specs.OwnParts.{slot_kept}
 
 -- a task's period and wcet are within the limits
 abbrev pub IsTaskRow : TaskRow → Type 0
@@ -21,3 +22,8 @@ pub record HasSizes (s : Schedule) (n : ℕ) : Type 0 where
   pub windows : length s.messages ≡ n
   pub tables : length s.tables ≡ length s.starts
   pub few : All FewSlots s.tables
+
+-- each slot of a round carries one of few copies
+abbrev pub FewCopies : List MessageRow → Schedule → ℕ → Type 0
+FewCopies messages s hyper =
+    (j n : ℕ) → j < length s.starts → Contains (slice_index_or s.tables j []) n → (slot_kept messages s hyper j 0 n).copy ≤ 4

@@ -9,6 +9,8 @@ use Rattle.node_tables.specs.declared.tables.OwnRound.{OwnRound}
 use Rattle.node_tables.specs.declared.tables.OwnSlot.{OwnSlot}
 use Rattle.node_tables.specs.declared.fault.ImageFault.{ImageFault}
 use Rattle.node_tables.specs.declared.fault.ImageFault.TheVariants.{Short, Range, Trailing}
+use Rattle.node_tables.specs.declared.version.Version.{Version}
+use Rattle.node_tables.specs.declared.version.Version.TheVariants.{First, Second}
 use Rattle.node_tables.specs.Left.{Left}
 
 -- what a reader gives, and what it leaves
@@ -51,20 +53,26 @@ abbrev pub counted : {X : Type 0} → ℕ → Reads X → Reads (List X)
 counted zero item = give []
 counted (suc n) item = after item (λ x. after (counted n item) (λ xs. give (x ∷ xs)))
 
+-- which copy a slot carries: in version 1 it is the first
+abbrev pub copy : Version → Reads ℕ
+copy First = give 1
+copy Second = byte 1 4
+
 -- the slot of an own message
-abbrev pub slot : Reads OwnSlot
-slot =
+abbrev pub slot : Version → Reads OwnSlot
+slot version =
     after (byte 1 32) (λ number.
     after (short 0 511) (λ message.
     after (long (negsuc 999999999999) (pos 1000000000000)) (λ release.
-    give (record { slot = number; message = message; release = release }))))
+    after (copy version) (λ copy.
+    give (record { slot = number; message = message; release = release; copy = copy })))))
 
 -- a round, with the number of its own slots before them
-abbrev pub round : Reads OwnRound
-round =
+abbrev pub round : Version → Reads OwnRound
+round version =
     after (long (pos 0) (pos 1000000000000)) (λ start.
     after (byte 0 32) (λ count.
-    after (counted count slot) (λ slots.
+    after (counted count (slot version)) (λ slots.
     give (record { start = start; slots = slots }))))
 
 -- the number of a task
@@ -92,8 +100,8 @@ task =
     give (record { number = number; period = period; offset = offset; wcet = wcet })))))
 
 -- a mode, with the numbers of its rounds, tasks and messages before them
-abbrev pub mode : Reads ModeTable
-mode =
+abbrev pub mode : Version → Reads ModeTable
+mode version =
     after (long (pos 1) (pos 1000000000000)) (λ hyper.
     after (short 1 2048) (λ first_round.
     after (short 1 256) (λ count.
@@ -101,17 +109,28 @@ mode =
     after (counted tasks_count task) (λ tasks.
     after (short 0 64) (λ messages_count.
     after (counted messages_count message) (λ messages.
-    after (counted count round) (λ rounds.
+    after (counted count (round version)) (λ rounds.
     give (record { hyper = hyper; first_round = first_round; tasks = tasks; messages = messages; rounds = rounds })))))))))
 
--- a table, behind the version of its image
-abbrev pub table : Reads NodeTable
-table =
-    after (byte 1 1) (λ version.
+-- the version with this number
+abbrev pub version_of : ℕ → Version
+version_of n = if n == 1 then First else Second
+
+-- the version of an image
+abbrev pub version : Reads Version
+version = after (byte 1 2) (λ n. give (version_of n))
+
+-- a table behind the version
+abbrev pub table_in : Version → Reads NodeTable
+table_in version =
     after (byte 0 63) (λ node.
     after (byte 1 8) (λ count.
-    after (counted count mode) (λ modes.
-    give (record { node = node; modes = modes })))))
+    after (counted count (mode version)) (λ modes.
+    give (record { node = node; modes = modes }))))
+
+-- the version, and a table by it
+abbrev pub table : Reads NodeTable
+table = after version table_in
 
 -- nothing may follow the last field
 abbrev pub whole : Result (NodeTable × Left) ImageFault → Result NodeTable ImageFault

@@ -1,12 +1,12 @@
 -- The mode sets and schedules of the tests
-use Rattle.std.specs.Prelude.{codes, List, [], ◌∷◌, pos}
+use Rattle.std.specs.Prelude.{ℕ, codes, List, [], ◌∷◌, pos}
 use Rattle.app_graph.specs.declared.mode_set.ModeSet.{ModeSet}
 use Rattle.app_graph.specs.declared.mode_set.Mode.{Mode}
 use Rattle.sched_model.specs.declared.schedule.Schedule.{Schedule}
 
--- the control loop
-abbrev pub loop_mode : Mode
-loop_mode = record {
+-- the control loop, whose first message has so many copies
+abbrev pub loop_with : ℕ → Mode
+loop_with copies = record {
   name = codes "run";
   apps = record {
     name = codes "loop";
@@ -15,9 +15,17 @@ loop_mode = record {
     tasks = record { name = codes "sense"; node = 1; wcet = pos 2; body = codes "tally"; number = 0 }
         ∷ record { name = codes "ctrl"; node = 0; wcet = pos 5; body = codes "tally"; number = 1 }
         ∷ record { name = codes "act"; node = 2; wcet = pos 1; body = codes "tally"; number = 2 } ∷ [];
-    messages = record { name = codes "m1"; from = 0 ∷ []; to = 1 ∷ []; number = 0; copies = 1 } ∷ record { name = codes "m2"; from = 1 ∷ []; to = 2 ∷ []; number = 1; copies = 1 } ∷ [];
+    messages = record { name = codes "m1"; from = 0 ∷ []; to = 1 ∷ []; number = 0; copies = copies } ∷ record { name = codes "m2"; from = 1 ∷ []; to = 2 ∷ []; number = 1; copies = 1 } ∷ [];
   } ∷ [];
 }
+
+-- with one copy of it
+abbrev pub loop_mode : Mode
+loop_mode = loop_with 1
+
+-- and with two
+abbrev pub double_mode : Mode
+double_mode = loop_with 2
 
 -- a mode of one task
 abbrev pub idle_mode : Mode
@@ -43,6 +51,15 @@ loop_schedule = record {
   tasks = pos 21 ∷ pos 43 ∷ pos 120 ∷ [];
   messages = (pos 23, pos 43) ∷ (pos 48, pos 120) ∷ [];
   tables = (1 ∷ []) ∷ (0 ∷ []) ∷ [];
+}
+
+-- one with two copies
+abbrev pub double_schedule : Schedule
+double_schedule = record {
+  starts = pos 0 ∷ pos 23 ∷ pos 43 ∷ [];
+  tasks = pos 21 ∷ pos 63 ∷ pos 120 ∷ [];
+  messages = (pos 23, pos 63) ∷ (pos 68, pos 120) ∷ [];
+  tables = (1 ∷ []) ∷ (0 ∷ []) ∷ (0 ∷ []) ∷ [];
 }
 
 -- and one of the idle mode

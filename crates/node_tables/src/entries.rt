@@ -6,33 +6,36 @@ ghost use Rattle.node_tables.specs.Fields.{AreInRange, bytes};
 ghost use Rattle.node_tables.specs.Image as images;
 ghost use Rattle.node_tables.specs.Reading as reads;
 ghost use Rattle.node_tables.specs.declared.fault.ImageFault.TheVariants.{Memory};
+ghost use Rattle.node_tables.specs.declared.version.Version.TheVariants.{Second};
 
 use crate::fault::ImageFault;
 use crate::reader::Reader;
 use crate::tables::{ModeTable, NodeTable, OwnMessage, OwnRound, OwnSlot, OwnTask};
+use crate::version::{Version, version_of};
 use crate::writer::{put_byte, put_long, put_short};
 use app_graph::ListOf;
 use std::alloc::{AllocError, Global};
 use ttw_text::Out;
 
 /// The version of the images that are written.
-const VERSION: u8 = 1;
+const VERSION: u8 = 2;
 
 /// What an image has one of, or a list of.
 pub trait Entry: Sized + Drop {
     ghost use Rattle.std.specs.Prelude.{List};
     ghost use Rattle.node_tables.specs.Fields.{Field};
     ghost use Rattle.node_tables.specs.Reading.{Reads};
+    ghost use Rattle.node_tables.specs.declared.version.Version.{Version};
 
-    /// How it is read.
-    ghost reading: { Reads Self };
+    /// How it is read, of an image of a version.
+    ghost reading: { Version → Reads Self };
 
-    /// The fields that it stands in.
+    /// The fields that it is written in.
     ghost fields: { Self → List Field };
 
-    fn read(alloc: Global, reader: &mut Reader<'_>) -> Result<Self, ImageFault>
-        ensures ok { IfOk result (λ x. reading reader.old ≡ Ok (x, reader.new)) }
-        ensures err { IfErr result (λ fault. fault ≢ Memory → reading reader.old ≡ Err fault) };
+    fn read(alloc: Global, reader: &mut Reader<'_>, version: Version) -> Result<Self, ImageFault>
+        ensures ok { IfOk result (λ x. reading version reader.old ≡ Ok (x, reader.new)) }
+        ensures err { IfErr result (λ fault. fault ≢ Memory → reading version reader.old ≡ Err fault) };
 
     /// Adds its bytes. After an `Err` some of them were added.
     fn write(&self, out: &mut Out) -> Result<(), AllocError>
@@ -45,14 +48,15 @@ pub trait Entry: Sized + Drop {
 fn read_list<T: Entry>(
     alloc: Global,
     reader: &mut Reader<'_>,
+    version: Version,
     count: u16,
 ) -> Result<ListOf<T>, ImageFault>
-    ensures ok { IfOk result (λ xs. reads.counted count T.reading reader.old ≡ Ok (xs, reader.new)) }
-    ensures err { IfErr result (λ fault. fault ≢ Memory → reads.counted count T.reading reader.old ≡ Err fault) }
+    ensures ok { IfOk result (λ xs. reads.counted count (T.reading version) reader.old ≡ Ok (xs, reader.new)) }
+    ensures err { IfErr result (λ fault. fault ≢ Memory → reads.counted count (T.reading version) reader.old ≡ Err fault) }
 {
     let mut items = Vec::new(alloc);
     for _ in 0..count {
-        let item = T::read(alloc, reader)?;
+        let item = T::read(alloc, reader, version)?;
         items.push(item).map_err(|_| ImageFault::Memory)?;
     }
     Ok(ListOf::from_vec(items))
@@ -71,11 +75,11 @@ fn write_list<T: Entry>(items: &[T], out: &mut Out) -> Result<(), AllocError>
 
 /// The number of a task.
 impl Entry for u32 {
-    ghost reading = { reads.task_number };
+    ghost reading = { λ _. reads.task_number };
 
     ghost fields = { images.task_field };
 
-    fn read(_alloc: Global, reader: &mut Reader<'_>) -> Result<u32, ImageFault> {
+    fn read(_alloc: Global, reader: &mut Reader<'_>, _version: Version) -> Result<u32, ImageFault> {
         Ok(u32::from(reader.short(0, 1023)?))
     }
 
@@ -84,35 +88,57 @@ impl Entry for u32 {
     }
 }
 
+/// Which copy a slot carries.
+fn read_copy(reader: &mut Reader<'_>, version: Version) -> Result<u8, ImageFault>
+    ensures ok { IfOk result (λ n. reads.copy version reader.old ≡ Ok (n, reader.new)) }
+    ensures err { IfErr result (λ fault. reads.copy version reader.old ≡ Err fault) }
+{
+    match version {
+        Version::First => Ok(1),
+        Version::Second => reader.byte(1, 4),
+    }
+}
+
 impl Entry for OwnSlot {
     ghost reading = { reads.slot };
 
-    ghost fields = { images.slot_fields };
+    ghost fields = { images.slot_fields Second };
 
-    fn read(_alloc: Global, reader: &mut Reader<'_>) -> Result<OwnSlot, ImageFault> {
+    fn read(
+        _alloc: Global,
+        reader: &mut Reader<'_>,
+        version: Version,
+    ) -> Result<OwnSlot, ImageFault> {
         let slot = reader.byte(1, 32)?;
         let message = reader.short(0, 511)?;
         let release = reader.long(-1_000_000_000_000, 1_000_000_000_000)?;
+        let copy = read_copy(reader, version)?;
         Ok(OwnSlot {
             slot,
             message: u32::from(message),
             release,
+            copy,
         })
     }
 
     fn write(&self, out: &mut Out) -> Result<(), AllocError> {
         put_byte(out, self.slot)?;
         put_short(out, self.message as u16)?;
-        put_long(out, self.release)
+        put_long(out, self.release)?;
+        put_byte(out, self.copy)
     }
 }
 
 impl Entry for OwnTask {
-    ghost reading = { reads.task };
+    ghost reading = { λ _. reads.task };
 
     ghost fields = { images.task_fields };
 
-    fn read(_alloc: Global, reader: &mut Reader<'_>) -> Result<OwnTask, ImageFault> {
+    fn read(
+        _alloc: Global,
+        reader: &mut Reader<'_>,
+        _version: Version,
+    ) -> Result<OwnTask, ImageFault> {
         let number = reader.short(0, 1023)?;
         let period = reader.long(1, 1_000_000_000)?;
         let offset = reader.long(0, 2_000_000_000_000)?;
@@ -136,12 +162,16 @@ impl Entry for OwnTask {
 impl Entry for OwnRound {
     ghost reading = { reads.round };
 
-    ghost fields = { images.round_fields };
+    ghost fields = { images.round_fields Second };
 
-    fn read(alloc: Global, reader: &mut Reader<'_>) -> Result<OwnRound, ImageFault> {
+    fn read(
+        alloc: Global,
+        reader: &mut Reader<'_>,
+        version: Version,
+    ) -> Result<OwnRound, ImageFault> {
         let start = reader.long(0, 1_000_000_000_000)?;
         let count = reader.byte(0, 32)?;
-        let slots = read_list(alloc, reader, u16::from(count))?;
+        let slots = read_list(alloc, reader, version, u16::from(count))?;
         Ok(OwnRound { start, slots })
     }
 
@@ -154,17 +184,21 @@ impl Entry for OwnRound {
 }
 
 impl Entry for OwnMessage {
-    ghost reading = { reads.message };
+    ghost reading = { λ _. reads.message };
 
     ghost fields = { images.message_fields };
 
-    fn read(alloc: Global, reader: &mut Reader<'_>) -> Result<OwnMessage, ImageFault> {
+    fn read(
+        alloc: Global,
+        reader: &mut Reader<'_>,
+        version: Version,
+    ) -> Result<OwnMessage, ImageFault> {
         let number = reader.short(0, 511)?;
         let role = reader.byte(1, 3)?;
         let count = reader.byte(1, 4)?;
-        let producers = read_list(alloc, reader, u16::from(count))?;
+        let producers = read_list(alloc, reader, version, u16::from(count))?;
         let count = reader.byte(0, 16)?;
-        let consumers = read_list(alloc, reader, u16::from(count))?;
+        let consumers = read_list(alloc, reader, version, u16::from(count))?;
         Ok(OwnMessage {
             number: u32::from(number),
             role,
@@ -188,17 +222,21 @@ impl Entry for OwnMessage {
 impl Entry for ModeTable {
     ghost reading = { reads.mode };
 
-    ghost fields = { images.mode_fields };
+    ghost fields = { images.mode_fields Second };
 
-    fn read(alloc: Global, reader: &mut Reader<'_>) -> Result<ModeTable, ImageFault> {
+    fn read(
+        alloc: Global,
+        reader: &mut Reader<'_>,
+        version: Version,
+    ) -> Result<ModeTable, ImageFault> {
         let hyper = reader.long(1, 1_000_000_000_000)?;
         let first_round = reader.short(1, 2048)?;
         let rounds_count = reader.short(1, 256)?;
         let count = reader.short(0, 128)?;
-        let tasks = read_list(alloc, reader, count)?;
+        let tasks = read_list(alloc, reader, version, count)?;
         let count = reader.short(0, 64)?;
-        let messages = read_list(alloc, reader, count)?;
-        let rounds = read_list(alloc, reader, rounds_count)?;
+        let messages = read_list(alloc, reader, version, count)?;
+        let rounds = read_list(alloc, reader, version, rounds_count)?;
         Ok(ModeTable {
             hyper,
             first_round,
@@ -223,27 +261,50 @@ impl Entry for ModeTable {
     }
 }
 
-impl Entry for NodeTable {
-    ghost reading = { reads.table };
+/// The version of the image.
+fn read_version(reader: &mut Reader<'_>) -> Result<Version, ImageFault>
+    ensures ok { IfOk result (λ v. reads.version reader.old ≡ Ok (v, reader.new)) }
+    ensures err { IfErr result (λ fault. reads.version reader.old ≡ Err fault) }
+{
+    let number = reader.byte(1, 2)?;
+    Ok(version_of(number))
+}
 
-    ghost fields = { images.table_fields };
+/// The table behind the version.
+fn read_modes(
+    alloc: Global,
+    reader: &mut Reader<'_>,
+    version: Version,
+) -> Result<NodeTable, ImageFault>
+    ensures ok { IfOk result (λ t. reads.table_in version reader.old ≡ Ok (t, reader.new)) }
+    ensures err { IfErr result (λ fault. fault ≢ Memory → reads.table_in version reader.old ≡ Err fault) }
+{
+    let node = reader.byte(0, 63)?;
+    let count = reader.byte(1, 8)?;
+    let modes = read_list(alloc, reader, version, u16::from(count))?;
+    Ok(NodeTable {
+        node: u32::from(node),
+        modes,
+    })
+}
 
-    fn read(alloc: Global, reader: &mut Reader<'_>) -> Result<NodeTable, ImageFault> {
-        let _version = reader.byte(1, 1)?;
-        let node = reader.byte(0, 63)?;
-        let count = reader.byte(1, 8)?;
-        let modes = read_list(alloc, reader, u16::from(count))?;
-        Ok(NodeTable {
-            node: u32::from(node),
-            modes,
-        })
-    }
+/// The version, and the table by it.
+pub fn read_table(alloc: Global, reader: &mut Reader<'_>) -> Result<NodeTable, ImageFault>
+    ensures ok { IfOk result (λ t. reads.table reader.old ≡ Ok (t, reader.new)) }
+    ensures err { IfErr result (λ fault. fault ≢ Memory → reads.table reader.old ≡ Err fault) }
+{
+    let version = read_version(reader)?;
+    read_modes(alloc, reader, version)
+}
 
-    fn write(&self, out: &mut Out) -> Result<(), AllocError> {
-        let modes = self.modes.as_slice();
-        put_byte(out, VERSION)?;
-        put_byte(out, self.node as u8)?;
-        put_byte(out, modes.len() as u8)?;
-        write_list(modes, out)
-    }
+/// Adds the bytes of a table. After an `Err` some of them were added.
+pub fn write_table(table: &NodeTable, out: &mut Out) -> Result<(), AllocError>
+    requires { images.IsInRange table.now }
+    ensures { OnOk result (out.new ≡ out.old ++ images.image_of table.now) }
+{
+    let modes = table.modes.as_slice();
+    put_byte(out, VERSION)?;
+    put_byte(out, table.node as u8)?;
+    put_byte(out, modes.len() as u8)?;
+    write_list(modes, out)
 }

@@ -1,6 +1,7 @@
 //! Node tables and their images.
 #![tactic(auto)]
 
+mod copies;
 mod entries;
 mod fault;
 mod image;
@@ -12,6 +13,7 @@ mod rows;
 mod tables;
 #[cfg(test)]
 mod tests;
+mod version;
 mod writer;
 
 pub use fault::ImageFault;

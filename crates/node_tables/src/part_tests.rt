@@ -3,7 +3,7 @@
 ghost use Rattle.std.specs.Prelude.{◌≡◌, ◌<◌, ◌∷◌, [], IfOk, IsTrue, codes, length};
 ghost use Rattle.app_graph.specs.Validation.{KeepsRules};
 ghost use Rattle.runtime_model.specs.Plans.{AreSchedules};
-ghost use Rattle.node_tables.specs.TestPlans.{idle_mode, idle_schedule, loop_mode, loop_schedule, set_with};
+ghost use Rattle.node_tables.specs.TestPlans.{double_mode, double_schedule, idle_mode, idle_schedule, loop_mode, loop_schedule, loop_with, set_with};
 
 use crate::{tables_of, write_image};
 use app_graph::{App, ListOf, Message, Mode, ModeSet, Name, Task};
@@ -75,26 +75,28 @@ fn message(
     from: u32,
     to: u32,
     number: u32,
+    copies: u32,
 ) -> Result<Message, AllocError>
-    ensures { IfOk result (λ m. m ≡ record { name = text.now; from = from ∷ []; to = to ∷ []; number = number; copies = 1 }) }
+    ensures { IfOk result (λ m. m ≡ record { name = text.now; from = from ∷ []; to = to ∷ []; number = number; copies = copies }) }
 {
     Ok(Message {
         name: name(alloc, text)?,
         from: one(alloc, from)?,
         to: one(alloc, to)?,
         number,
-        copies: 1,
+        copies,
     })
 }
 
-fn loop_mode(alloc: Global) -> Result<Mode, AllocError>
-    ensures { IfOk result (λ m. m ≡ loop_mode) }
+/// The control loop, whose first message has so many copies.
+fn loop_with(alloc: Global, copies: u32) -> Result<Mode, AllocError>
+    ensures { IfOk result (λ m. m ≡ loop_with copies) }
 {
     let sense = task(alloc, "sense", 1, 2, 0)?;
     let ctrl = task(alloc, "ctrl", 0, 5, 1)?;
     let act = task(alloc, "act", 2, 1, 2)?;
-    let first = message(alloc, "m1", 0, 1, 0)?;
-    let second = message(alloc, "m2", 1, 2, 1)?;
+    let first = message(alloc, "m1", 0, 1, 0, copies)?;
+    let second = message(alloc, "m2", 1, 2, 1, 1)?;
     let app = App {
         name: name(alloc, "loop")?,
         period: 100,
@@ -158,6 +160,20 @@ fn loop_schedule(alloc: Global) -> Result<Schedule, AllocError>
     })
 }
 
+fn double_schedule(alloc: Global) -> Result<Schedule, AllocError>
+    ensures { IfOk result (λ s. s ≡ double_schedule) }
+{
+    let first = one(alloc, 1)?;
+    let second = one(alloc, 0)?;
+    let third = one(alloc, 0)?;
+    Ok(Schedule {
+        starts: three(alloc, 0, 23, 43)?,
+        tasks: three(alloc, 21, 63, 120)?,
+        messages: two(alloc, (23, 63), (68, 120))?,
+        tables: three(alloc, first, second, third)?,
+    })
+}
+
 fn idle_schedule(alloc: Global) -> Result<Schedule, AllocError>
     ensures { IfOk result (λ s. s ≡ idle_schedule) }
 {
@@ -199,7 +215,7 @@ fn is_loop_right(set: &ModeSet, plans: &[Schedule]) -> bool
 
 /// Whether the images of the loop's three nodes are these.
 fn has_loop_images(alloc: Global, images: [&[u8]; 3]) -> Result<bool, AllocError> {
-    let set = set_with(alloc, one(alloc, loop_mode(alloc)?)?)?;
+    let set = set_with(alloc, one(alloc, loop_with(alloc, 1)?)?)?;
     let plans = [loop_schedule(alloc)?];
     if !is_loop_right(&set, &plans) {
         return Ok(false);
@@ -209,6 +225,26 @@ fn has_loop_images(alloc: Global, images: [&[u8]; 3]) -> Result<bool, AllocError
     let sensor = has_image(alloc, &set, &plans, 1, second)?;
     let actuator = has_image(alloc, &set, &plans, 2, third)?;
     Ok(controller && sensor && actuator)
+}
+
+/// Whether the schedule of the loop with two copies is right.
+fn is_double_right(set: &ModeSet, plans: &[Schedule]) -> bool
+    requires set { set.now ≡ set_with (double_mode ∷ []) }
+    requires plans { plans.now ≡ double_schedule ∷ [] }
+    ensures rules { KeepsRules set.now }
+    ensures right { IsTrue result → AreSchedules set.now plans.now }
+{
+    verify(set, 0, &plans[0]).is_ok()
+}
+
+/// Whether this is node 0's image of the loop with two copies.
+fn has_double_image(alloc: Global, image: &[u8]) -> Result<bool, AllocError> {
+    let set = set_with(alloc, one(alloc, loop_with(alloc, 2)?)?)?;
+    let plans = [double_schedule(alloc)?];
+    if !is_double_right(&set, &plans) {
+        return Ok(false);
+    }
+    has_image(alloc, &set, &plans, 0, image)
 }
 
 /// Whether the schedules of the loop and of the idle mode are right.
@@ -226,7 +262,7 @@ fn are_both_right(set: &ModeSet, plans: &[Schedule]) -> bool
 
 /// Whether this is node 1's image of the loop and the idle mode.
 fn has_two_modes_image(alloc: Global, image: &[u8]) -> Result<bool, AllocError> {
-    let set = set_with(alloc, two(alloc, loop_mode(alloc)?, idle_mode(alloc)?)?)?;
+    let set = set_with(alloc, two(alloc, loop_with(alloc, 1)?, idle_mode(alloc)?)?)?;
     let plans = [loop_schedule(alloc)?, idle_schedule(alloc)?];
     if !are_both_right(&set, &plans) {
         return Ok(false);
@@ -235,8 +271,8 @@ fn has_two_modes_image(alloc: Global, image: &[u8]) -> Result<bool, AllocError> 
 }
 
 /// Node 0 takes `m1`, and sends `m2` in the window of the hyperperiod before.
-const CONTROLLER: [u8; 101] = [
-    1, 0, 1, // version, node, modes
+const CONTROLLER: [u8; 103] = [
+    2, 0, 1, // version, node, modes
     0, 0, 0, 0, 0, 0, 0, 100, 0, 1, 0, 2, // hyperperiod, first round, rounds
     0, 1, 0, 1, // tasks, number
     0, 0, 0, 0, 0, 0, 0, 100, // period
@@ -246,15 +282,15 @@ const CONTROLLER: [u8; 101] = [
     0, 1, 1, 1, 0, 1, 0, // number, role, producers, consumers
     0, 0, 0, 0, 0, 0, 0, 0, 1, // start, slots
     1, 0, 1, // slot, message
-    255, 255, 255, 255, 255, 255, 255, 156, // release
+    255, 255, 255, 255, 255, 255, 255, 156, 1, // release, copy
     0, 0, 0, 0, 0, 0, 0, 23, 1, // start, slots
     1, 0, 0, // slot, message
-    0, 0, 0, 0, 0, 0, 0, 0, // release
+    0, 0, 0, 0, 0, 0, 0, 0, 1, // release, copy
 ];
 
 /// Node 1 sends `m1`.
-const SENSOR: [u8; 81] = [
-    1, 1, 1, // version, node, modes
+const SENSOR: [u8; 82] = [
+    2, 1, 1, // version, node, modes
     0, 0, 0, 0, 0, 0, 0, 100, 0, 1, 0, 2, // hyperperiod, first round, rounds
     0, 1, 0, 0, // tasks, number
     0, 0, 0, 0, 0, 0, 0, 100, // period
@@ -264,12 +300,12 @@ const SENSOR: [u8; 81] = [
     0, 0, 0, 0, 0, 0, 0, 0, 0, // start, slots
     0, 0, 0, 0, 0, 0, 0, 23, 1, // start, slots
     1, 0, 0, // slot, message
-    0, 0, 0, 0, 0, 0, 0, 0, // release
+    0, 0, 0, 0, 0, 0, 0, 0, 1, // release, copy
 ];
 
 /// Node 2 takes `m2`.
-const ACTUATOR: [u8; 83] = [
-    1, 2, 1, // version, node, modes
+const ACTUATOR: [u8; 84] = [
+    2, 2, 1, // version, node, modes
     0, 0, 0, 0, 0, 0, 0, 100, 0, 1, 0, 2, // hyperperiod, first round, rounds
     0, 1, 0, 2, // tasks, number
     0, 0, 0, 0, 0, 0, 0, 100, // period
@@ -278,8 +314,29 @@ const ACTUATOR: [u8; 83] = [
     0, 1, 0, 1, 2, 1, 0, 1, 1, 0, 2, // messages, number, role, producers, consumers
     0, 0, 0, 0, 0, 0, 0, 0, 1, // start, slots
     1, 0, 1, // slot, message
-    255, 255, 255, 255, 255, 255, 255, 156, // release
+    255, 255, 255, 255, 255, 255, 255, 156, 1, // release, copy
     0, 0, 0, 0, 0, 0, 0, 23, 0, // start, slots
+];
+
+/// With two copies of `m1`, node 0 takes them in two rounds.
+const DOUBLE: [u8; 124] = [
+    2, 0, 1, // version, node, modes
+    0, 0, 0, 0, 0, 0, 0, 100, 0, 1, 0, 3, // hyperperiod, first round, rounds
+    0, 1, 0, 1, // tasks, number
+    0, 0, 0, 0, 0, 0, 0, 100, // period
+    0, 0, 0, 0, 0, 0, 0, 63, // offset
+    0, 0, 0, 0, 0, 0, 0, 5, // wcet
+    0, 2, 0, 0, 2, 1, 0, 0, 1, 0, 1, // messages, number, role, producers, consumers
+    0, 1, 1, 1, 0, 1, 0, // number, role, producers, consumers
+    0, 0, 0, 0, 0, 0, 0, 0, 1, // start, slots
+    1, 0, 1, // slot, message
+    255, 255, 255, 255, 255, 255, 255, 156, 1, // release, copy
+    0, 0, 0, 0, 0, 0, 0, 23, 1, // start, slots
+    1, 0, 0, // slot, message
+    0, 0, 0, 0, 0, 0, 0, 0, 1, // release, copy
+    0, 0, 0, 0, 0, 0, 0, 43, 1, // start, slots
+    1, 0, 0, // slot, message
+    0, 0, 0, 0, 0, 0, 0, 0, 2, // release, copy
 ];
 
 /// What node 1 keeps of the idle mode: nothing but its one round, the third of the file.
@@ -297,6 +354,12 @@ fn part_images(rt: HostRuntime) -> Result<(), Fail> {
         ACTUATOR.as_slice(),
     ];
     assert!(rt; has_loop_images(rt.alloc(), images)?);
+    Ok(())
+}
+
+#[test]
+fn part_of_two_copies(rt: HostRuntime) -> Result<(), Fail> {
+    assert!(rt; has_double_image(rt.alloc(), &DOUBLE)?);
     Ok(())
 }
 

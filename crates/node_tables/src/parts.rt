@@ -10,9 +10,10 @@ ghost use Rattle.runtime_model.specs.NodeTables.{part_of};
 ghost use Rattle.runtime_model.specs.Plans.{AreSchedules, no_schedule, plan_of, plans_of};
 ghost use Rattle.node_tables.specs.Image.{IsInRange};
 ghost use Rattle.node_tables.specs.OwnParts.{first_message, mode_kept, release_in, round_kept, rounds_kept, slot_kept, slot_part, slots_kept, task_part, tasks_kept};
-ghost use Rattle.node_tables.specs.PartLimits.{FewSlots, HasSizes, IsMessageRow, IsTaskRow};
+ghost use Rattle.node_tables.specs.PartLimits.{FewCopies, FewSlots, HasSizes, IsMessageRow, IsTaskRow};
 ghost use Rattle.node_tables.specs.Parts.{part_in, plain_table, typed_mode, typed_table};
 
+use crate::copies::{copy_of, table_of};
 use crate::rows::{MessageRow, first_message, make_messages, make_tasks};
 use crate::tables::{ModeTable, NodeTable, OwnRound, OwnSlot, OwnTask};
 use app_graph::{ListOf, ModeSet};
@@ -62,6 +63,7 @@ fn release(start: Time, opens: Time, period: u64) -> Time
 fn make_slot(
     messages: &[MessageRow],
     schedule: &Schedule,
+    hyper: u64,
     round: usize,
     slot: u8,
     number: u32,
@@ -70,16 +72,20 @@ fn make_slot(
     requires round { round < length schedule.now.starts }
     requires sizes { HasSizes schedule.now (length messages.now) }
     requires times { HasTimes schedule.now }
+    requires hyper { hyper ≤ 1000000000000 }
     requires messages { All IsMessageRow messages.now }
+    requires few { (slot_kept messages.now schedule.now hyper round slot number).copy ≤ 4 }
     requires place { (place ≡ number - first_message messages.now) × (place < length messages.now) }
-    ensures { result ≡ slot_kept messages.now schedule.now round slot number }
+    ensures { result ≡ slot_kept messages.now schedule.now hyper round slot number }
 {
     let start = schedule.starts.as_slice()[round];
     let (opens, _) = schedule.messages.as_slice()[place];
+    let release = release(start, opens, messages[place].period);
     OwnSlot {
         slot,
         message: number,
-        release: release(start, opens, messages[place].period),
+        release,
+        copy: copy_of(schedule, hyper, number, opens + release, start),
     }
 }
 
@@ -88,6 +94,7 @@ fn add_slot(
     own: &mut Vec<OwnSlot>,
     messages: &[MessageRow],
     schedule: &Schedule,
+    hyper: u64,
     round: usize,
     slot: u8,
     number: u32,
@@ -95,25 +102,16 @@ fn add_slot(
     requires round { round < length schedule.now.starts }
     requires sizes { HasSizes schedule.now (length messages.now) }
     requires times { HasTimes schedule.now }
+    requires hyper { hyper ≤ 1000000000000 }
     requires messages { All IsMessageRow messages.now }
-    ensures { IfOk result (λ _. own.new.items ≡ own.old.items ++ slot_part messages.now schedule.now round slot number) }
+    requires few { (slot_kept messages.now schedule.now hyper round slot number).copy ≤ 4 }
+    ensures { IfOk result (λ _. own.new.items ≡ own.old.items ++ slot_part messages.now schedule.now hyper round slot number) }
 {
     let place = number.saturating_sub(first_message(messages)) as usize;
     if place < messages.len() && messages[place].role != 0 {
-        own.push(make_slot(messages, schedule, round, slot, number, place))?;
+        own.push(make_slot(messages, schedule, hyper, round, slot, number, place))?;
     }
     Ok(())
-}
-
-/// The table of the round at the place.
-fn table_of(schedule: &Schedule, round: usize) -> &[u32]
-    requires round { round < length schedule.now.starts }
-    requires tables { length schedule.now.tables ≡ length schedule.now.starts }
-    requires few { All FewSlots schedule.now.tables }
-    ensures table { result.now ≡ slice_index_or schedule.now.tables round [] }
-    ensures few { length result.now ≤ 32 }
-{
-    schedule.tables.as_slice()[round].as_slice()
 }
 
 /// The own slots of the round at the place.
@@ -121,18 +119,21 @@ fn own_slots(
     alloc: Global,
     messages: &[MessageRow],
     schedule: &Schedule,
+    hyper: u64,
     round: usize,
 ) -> Result<Vec<OwnSlot>, AllocError>
     requires round { round < length schedule.now.starts }
     requires sizes { HasSizes schedule.now (length messages.now) }
     requires times { HasTimes schedule.now }
+    requires hyper { hyper ≤ 1000000000000 }
     requires messages { All IsMessageRow messages.now }
-    ensures { IfOk result (λ v. v.items ≡ slots_kept messages.now schedule.now round (slice_index_or schedule.now.tables round [])) }
+    requires few { FewCopies messages.now schedule.now hyper }
+    ensures { IfOk result (λ v. v.items ≡ slots_kept messages.now schedule.now hyper round (slice_index_or schedule.now.tables round [])) }
 {
     let mut own = Vec::new(alloc);
     for (place, number) in table_of(schedule, round).iter().enumerate() {
         let slot = place as u8 + 1;
-        add_slot(&mut own, messages, schedule, round, slot, *number)?;
+        add_slot(&mut own, messages, schedule, hyper, round, slot, *number)?;
     }
     Ok(own)
 }
@@ -142,15 +143,18 @@ fn own_round(
     alloc: Global,
     messages: &[MessageRow],
     schedule: &Schedule,
+    hyper: u64,
     place: usize,
 ) -> Result<OwnRound, AllocError>
     requires place { place < length schedule.now.starts }
     requires sizes { HasSizes schedule.now (length messages.now) }
     requires times { HasTimes schedule.now }
+    requires hyper { hyper ≤ 1000000000000 }
     requires messages { All IsMessageRow messages.now }
-    ensures { IfOk result (λ r. r ≡ round_kept messages.now schedule.now place) }
+    requires few { FewCopies messages.now schedule.now hyper }
+    ensures { IfOk result (λ r. r ≡ round_kept messages.now schedule.now hyper place) }
 {
-    let slots = own_slots(alloc, messages, schedule, place)?;
+    let slots = own_slots(alloc, messages, schedule, hyper, place)?;
     Ok(OwnRound {
         start: schedule.starts.as_slice()[place],
         slots: ListOf::from_vec(slots),
@@ -162,15 +166,18 @@ fn own_rounds(
     alloc: Global,
     messages: &[MessageRow],
     schedule: &Schedule,
+    hyper: u64,
 ) -> Result<Vec<OwnRound>, AllocError>
     requires sizes { HasSizes schedule.now (length messages.now) }
     requires times { HasTimes schedule.now }
+    requires hyper { hyper ≤ 1000000000000 }
     requires messages { All IsMessageRow messages.now }
-    ensures { IfOk result (λ v. v.items ≡ rounds_kept messages.now schedule.now) }
+    requires few { FewCopies messages.now schedule.now hyper }
+    ensures { IfOk result (λ v. v.items ≡ rounds_kept messages.now schedule.now hyper) }
 {
     let mut rounds = Vec::new(alloc);
     for place in 0..schedule.starts.as_slice().len() {
-        rounds.push(own_round(alloc, messages, schedule, place)?)?;
+        rounds.push(own_round(alloc, messages, schedule, hyper, place)?)?;
     }
     Ok(rounds)
 }
@@ -190,12 +197,18 @@ fn mode_part(
     ensures { IfOk result (λ t. t ≡ typed_mode (part_in first_round node (record { mode = plain_at set.now mode; schedule = schedule.now }))) }
 {
     let apps = apps_of(set, mode);
+    let hyper = hyper(set, mode);
     let tasks = make_tasks(alloc, apps)?;
     let messages = make_messages(alloc, tasks.as_slice(), node, apps)?;
     let own = own_tasks(alloc, tasks.as_slice(), schedule.tasks.as_slice(), node)?;
-    let rounds = own_rounds(alloc, messages.rows.as_slice(), schedule)?;
+    let rounds = own_rounds(
+        alloc,
+        messages.rows.as_slice(),
+        schedule,
+        hyper.unsigned_abs(),
+    )?;
     Ok(ModeTable {
-        hyper: hyper(set, mode),
+        hyper,
         first_round,
         tasks: ListOf::from_vec(own),
         messages: ListOf::from_vec(messages.own),

@@ -25,7 +25,7 @@ impl<'a> Model for Reader<'a> {
 }
 
 /// Whether a number lies in a range.
-fn is_between(low: i64, value: i64, high: i64) -> bool
+pub(crate) fn is_between(low: i64, value: i64, high: i64) -> bool
     ensures { result ≡ (int_le low value && int_le value high) }
 {
     low <= value && value <= high

@@ -9,4 +9,4 @@ returns-in_err-item-clause-err g c =
     let fault = c.in_err-item.field-0.0 in
     let p = err_from_is_err_and c.from_residual.result c.from_residual.ensures.1 in
     rw (p.1, p.2)
-    (λ known. sym l.invariant.so_far ∙ prefixed_fault g.T.Entry.reading l.items.items (c.args.count - l.counter) l.reader fault (omega arith) (c.in_err-item.ensures.err known))
+    (λ known. sym l.invariant.so_far ∙ prefixed_fault (g.T.Entry.reading c.args.version) l.items.items (c.args.count - l.counter) l.reader fault (omega arith) (c.in_err-item.ensures.err known))

@@ -4,7 +4,7 @@ use Rattle.node_tables.specs.Reading as reads
 use Rattle.node_tables.specs.declared.fault.ImageFault.{ImageFault}
 use Rattle.node_tables.specs.declared.fault.ImageFault.TheVariants.{Trailing, Memory}
 use Rattle.node_tables.specs.declared.tables.NodeTable.{NodeTable}
-use Rattle.node_tables.proofs.Images.{image-read, only_image}
+use Rattle.node_tables.proofs.Images.{image-read, in_range-read, only_image}
 use Rattle.node_tables.proofs.image.read_image.Goals as goal
 
 pub returns-in_err-table-clause-only : goal.returns-in_err-table-clause-only
@@ -30,3 +30,8 @@ returns-clause-only c =
     let r : Result NodeTable ImageFault = Ok c.in_ok-table.table in
     let ok : reads.read c.args.bytes.now ≡ Ok c.in_ok-table.table = grind (arith, common_steps) in
     only_image c.args.bytes.now r ok tt
+
+pub returns-clause-in_range : goal.returns-clause-in_range
+returns-clause-in_range c =
+    let ok : reads.read c.args.bytes.now ≡ Ok c.in_ok-table.table = grind (arith, common_steps) in
+    in_range-read c.args.bytes.now (λ i. (c.type_inv.bytes i).fits) c.in_ok-table.table ok

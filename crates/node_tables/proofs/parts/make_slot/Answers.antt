@@ -1,22 +1,23 @@
-use Rattle.std.proofs.Common.{rules, List, ℤ, pos, get_or, to_z, of_z, w64, FitsSigned, ap, ◌∙◌, arith}
-use Rattle.std.proofs.lemmas.Int.{to_z-of_z}
-use Rattle.std.proofs.lemmas.List.Elements.{All-get_or}
-use Rattle.sched_model.specs.TimeLimits.{IsTime}
-use Rattle.node_tables.specs.OwnParts.{release_in, no_message_row}
-use Rattle.node_tables.proofs.PartLists.{same_time, slot_is}
+use Rattle.std.proofs.Common.{◌≡◌, ◌≤◌, ℕ, ap, sym, ◌∙◌, subst, to_z, of_z, w64}
+use Rattle.node_tables.specs.declared.tables.OwnSlot.{OwnSlot}
+use Rattle.node_tables.proofs.PartLists.{slot_made}
 use Rattle.node_tables.proofs.parts.make_slot.Goals as goal
+
+pub overflow_add-opens : goal.overflow_add-opens
+overflow_add-opens c =
+    let made = slot_made c.args.messages.now c.args.schedule.now c.args.hyper c.args.round c.args.slot c.args.number c.args.place c.as_slice.result.now c.as_slice-2.result.now c.release-release.result
+    c.requires.round c.requires.sizes.windows c.requires.times c.requires.messages c.requires.place c.as_slice.ensures c.as_slice-2.ensures c.release-release.ensures in
+    made.0
+
+pub copy_of-requires-clause-few : goal.copy_of-requires-clause-few
+copy_of-requires-clause-few c =
+    let made = slot_made c.args.messages.now c.args.schedule.now c.args.hyper c.args.round c.args.slot c.args.number c.args.place c.as_slice.result.now c.as_slice-2.result.now c.release-release.result
+    c.requires.round c.requires.sizes.windows c.requires.times c.requires.messages c.requires.place c.as_slice.ensures c.as_slice-2.ensures c.release-release.ensures in
+    subst (λ (x : OwnSlot). x.copy ≤ 4) (sym made.1) c.requires.few
 
 pub returns : goal.returns
 returns c =
-    let s = c.args.schedule.now in
-    let per = (get_or c.args.messages.now c.args.place no_message_row).period in
-    let one : IsTime (get_or s.starts c.args.round (pos 0)) = All-get_or IsTime s.starts c.args.round (pos 0) c.requires.round c.requires.times.starts in
-    let two : IsTime (get_or s.messages c.args.place (pos 0, pos 0)).0 =
-    (All-get_or (λ w. IsTime w.0 × IsTime w.1) s.messages c.args.place (pos 0, pos 0) (omega (arith, c.requires.place.1, c.requires.sizes.windows)) c.requires.times.messages).0 in
-    let f : FitsSigned w64 c.release.result = search rules in
-    slot_is c.args.messages.now s c.args.round c.args.slot c.args.number c.args.place (to_z w64 (of_z w64 c.release.result)) c.requires.place.0
-    (to_z-of_z w64 c.release.result f ∙ c.release.ensures
-    ∙ ap (λ (z : ℤ). release_in z (to_z w64 (of_z w64 (get_or c.as_slice-2.result.now c.args.place (pos 0, pos 0)).0)) per)
-    (ap (λ (l : List ℤ). to_z w64 (of_z w64 (get_or l c.args.round (pos 0)))) c.as_slice.ensures ∙ same_time _ one)
-    ∙ ap (λ (z : ℤ). release_in (get_or s.starts c.args.round (pos 0)) z per)
-    (ap (λ (l : List (ℤ × ℤ)). to_z w64 (of_z w64 (get_or l c.args.place (pos 0, pos 0)).0)) c.as_slice-2.ensures ∙ same_time _ two))
+    let made = slot_made c.args.messages.now c.args.schedule.now c.args.hyper c.args.round c.args.slot c.args.number c.args.place c.as_slice.result.now c.as_slice-2.result.now c.release-release.result
+    c.requires.round c.requires.sizes.windows c.requires.times c.requires.messages c.requires.place c.as_slice.ensures c.as_slice-2.ensures c.release-release.ensures in
+    let with_copy = λ (n : ℕ). let x : OwnSlot = record { slot = c.args.slot; message = c.args.number; release = to_z w64 (of_z w64 c.release-release.result); copy = n } in x in
+    ap with_copy c.copy_of.ensures ∙ made.1

@@ -1,7 +1,7 @@
 use Rattle.std.proofs.Common.{rules}
 use Rattle.std.proofs.lemmas.List.{append_assoc}
 use Rattle.std.proofs.lemmas.Result.{IfOk-equal}
-use Rattle.node_tables.proofs.entries.NodeTableEntry.write.Goals as goal
+use Rattle.node_tables.proofs.entries.write_table.Goals as goal
 
 pub returns : goal.returns
 returns c = search (rules, IfOk-equal, append_assoc)
