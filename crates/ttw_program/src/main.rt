@@ -12,6 +12,8 @@ mod drop_tests;
 mod ending;
 mod fault_lines;
 mod guarding;
+#[cfg(test)]
+mod hostile_tests;
 pub mod laws;
 mod mode_files;
 mod plan_files;
