@@ -23,13 +23,14 @@ use Rattle.cert_checker.specs.declared.walk.Walk.{Walk}
 use Rattle.cert_checker.specs.declared.draft.Draft.{Draft}
 use Rattle.cert_checker.specs.declared.counts.Inside.TheVariants.{Node}
 use Rattle.cert_checker.specs.declared.counts.Next.{Next}
-use Rattle.cert_checker.specs.declared.counts.Next.TheVariants.{Due, Plan}
+use Rattle.cert_checker.specs.declared.counts.Next.TheVariants.{More, Due, Plan}
 use Rattle.cert_checker.specs.TreeStack.{line_at, behind_line, tree_due, walk_due}
 use Rattle.cert_checker.specs.DraftReading.{doc_at, moments, tasks_due, draft_due, InHand}
 use Rattle.cert_checker.specs.ModeReading.{Follows, count_due, inside_due}
 
 -- what is read in the same way goes on in the same way
 pub follows_from : (o : ℕ) (d : DocMode) (line : ℕ) (read other : Items → Read (Option Schedule)) (next : Next) → ((rest : Items) → other rest ≡ read rest) → Follows o d line read next → Follows o d line other next
+follows_from o d line read other More e f = elim f [ ]
 follows_from o d line read other (Due inside) e f = (f.0, λ rest. e rest ∙ f.1 rest)
 follows_from o d line read other (Plan plan) e f = (f.0, λ rest. e rest ∙ f.1 rest)
 

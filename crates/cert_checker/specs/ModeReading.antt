@@ -11,7 +11,7 @@ use Rattle.cert_checker.specs.declared.draft.Draft.{Draft}
 use Rattle.cert_checker.specs.declared.counts.Inside.{Inside}
 use Rattle.cert_checker.specs.declared.counts.Inside.TheVariants.{Count, Node, Starts, Rest}
 use Rattle.cert_checker.specs.declared.counts.Next.{Next}
-use Rattle.cert_checker.specs.declared.counts.Next.TheVariants.{Due, Plan}
+use Rattle.cert_checker.specs.declared.counts.Next.TheVariants.{More, Due, Plan}
 use Rattle.cert_checker.specs.TreeStack.{IsWalk, walk_due, behind_line}
 use Rattle.cert_checker.specs.DraftReading.{InHand, draft_due}
 
@@ -42,7 +42,14 @@ abbrev pub IsShaped : DocMode → Option Schedule → Type 0
 IsShaped d None = ⊤
 IsShaped d (Some s) = HasShape d.mode (length s.starts) s × HasTimes s
 
+-- what comes after a line: what is inside now, where that goes on
+abbrev pub now_due : Inside → Next → Next
+now_due inside More = Due inside
+now_due inside (Due next) = Due next
+now_due inside (Plan plan) = Plan plan
+
 -- what is read, whatever comes behind the line, goes on so: with what is due next, or to the mode's plan
 abbrev pub Follows : ℕ → DocMode → ℕ → (Items → Read (Option Schedule)) → Next → Type 0
+Follows o d line read More = ⊥
 Follows o d line read (Due inside) = IsInside d inside × ((rest : Items) → read rest ≡ inside_due o d inside (behind_line line rest))
 Follows o d line read (Plan plan) = IsShaped d plan × ((rest : Items) → read rest ≡ Ok (plan, behind_line line rest))

@@ -1,6 +1,6 @@
 //! The checker, which takes a document line by line and keeps none of it.
 
-ghost use Rattle.std.specs.Prelude.{◌≡◌, ◌+◌, ◌<◌, ◌∷◌, [], ℕ, List, length, IfErr, IfOk};
+ghost use Rattle.std.specs.Prelude.{◌≡◌, ◌+◌, ◌<◌, ◌∷◌, [], ℕ, List, length, IfErr, IfOk, OnOk};
 ghost use Rattle.app_graph.specs.Validation.{KeepsRules};
 ghost use Rattle.app_graph.specs.declared.mode_set.ModeSet.{ModeSet as Set};
 ghost use Rattle.ttw_text.specs.Lines.{lines};
@@ -47,37 +47,28 @@ impl<'a> Checker<'a> {
 
     /// Takes the next line, with its line feed where it has one.
     pub(crate) fn take(
-        self,
+        &mut self,
         alloc: Global,
         set: &'a ModeSet,
         bytes: &[u8],
-    ) -> Result<Checker<'a>, Refused>
+    ) -> Result<(), Refused>
         requires rules { KeepsRules set.now }
-        requires ready { IsReady set.now self }
+        requires ready { IsReady set.now self.old }
         requires some { 0 < length bytes.now }
 
-        ensures ready { IfOk result (λ next. IsReady set.now next) }
-        ensures place { IfOk result (λ next. next.place ≡ self.entry.place + length bytes.now) }
-        ensures leads { IfOk result (λ next. (rest : List (List ℕ)) →
-            leads set.now self.entry (bytes.now ∷ rest) ≡ leads set.now next rest) }
+        ensures ready { OnOk result (IsReady set.now self.new) }
+        ensures place { OnOk result (self.new.place ≡ self.old.place + length bytes.now) }
+        ensures leads { OnOk result ((rest : List (List ℕ)) →
+            leads set.now self.old (bytes.now ∷ rest) ≡ leads set.now self.new rest) }
         ensures err { IfErr result (λ e. (rest : List (List ℕ)) →
-            Refutes set.now e (leads set.now self.entry (bytes.now ∷ rest))) }
+            Refutes set.now e (leads set.now self.old (bytes.now ∷ rest))) }
     {
-        let Checker {
-            mut plans,
-            stage,
-            line,
-            place,
-        } = self;
-        let end = place + bytes.len() as u64;
-        let item = read_line(bytes, end, line)?;
-        let stage = stage.take(alloc, set, &mut plans, line, &item)?;
-        Ok(Checker {
-            plans,
-            stage,
-            line: line + 1,
-            place: end,
-        })
+        let end = self.place + bytes.len() as u64;
+        let item = read_line(bytes, end, self.line)?;
+        self.stage.take(alloc, set, &mut self.plans, self.line, &item)?;
+        self.line += 1;
+        self.place = end;
+        Ok(())
     }
 
     /// The refusal of the next line where it has none of the forms.

@@ -35,7 +35,7 @@ pub fn check(alloc: Global, set: &ModeSet, text: &[u8]) -> Result<Accepted, Refu
     let mut checker = Checker::begin(alloc);
     let mut from = 0;
     while let Some((bytes, next)) = cut(text, from) {
-        checker = checker.take(alloc, set, bytes)?;
+        checker.take(alloc, set, bytes)?;
         from = next;
     }
     accepted_are_best();

@@ -8,7 +8,7 @@ ghost use Rattle.proof_tree.specs.PlanLines.{meaning};
 ghost use Rattle.proof_tree.specs.Reading.{Place, schedule, tree};
 ghost use Rattle.proof_tree.specs.TreeLines.{Items};
 ghost use Rattle.cert_checker.specs.DraftReading.{InHand, doc_at, draft_due};
-ghost use Rattle.cert_checker.specs.ModeReading.{Follows, IsInside, IsLeft, count_due, inside_due};
+ghost use Rattle.cert_checker.specs.ModeReading.{Follows, IsInside, IsLeft, count_due, inside_due, now_due};
 ghost use Rattle.cert_checker.specs.Refusals.{Fails, FitsLine};
 ghost use Rattle.cert_checker.specs.TreeStack.{IsWalk, behind_line, line_at, walk_due};
 
@@ -38,18 +38,21 @@ pub(crate) enum Inside<'a> {
 /// What comes after a line inside a mode.
 #[derive(Drop)]
 pub(crate) enum Next<'a> {
+    /// The tree or the schedule that the line belongs to goes on.
+    More,
     /// This is due next.
     Due(Inside<'a>),
     /// The mode is done, with this schedule or none.
     Plan(Option<Schedule>),
 }
 
-/// What comes after some lines of a schedule.
-fn after_lines<'a>(draft: Draft<'a>) -> Next<'a>
-    ensures { (o line : ℕ) (d : DocMode) → InHand d draft.entry → Follows o d line (λ rest. draft_due d draft.entry (behind_line line rest)) result }
+/// Begins a schedule, of which the starts were read.
+fn after_starts<'a>(alloc: Global, mut draft: Draft<'a>) -> Next<'a>
+    ensures { (o line : ℕ) (d : DocMode) → InHand d draft.entry →
+        Follows o d line (λ rest. draft_due d draft.entry (behind_line line rest)) result }
 {
     if draft.is_whole() {
-        return Next::Plan(Some(draft.finish()));
+        return Next::Plan(Some(draft.finish(alloc)));
     }
     Next::Due(Inside::Rest(draft))
 }
@@ -59,19 +62,26 @@ fn take_rest<'a>(
     alloc: Global,
     set: &ModeSet,
     mode: u32,
-    mut draft: Draft<'a>,
+    draft: &mut Draft<'a>,
     line: u64,
     item: &PlanLine<'_>,
 ) -> Result<Next<'a>, Refused>
     requires mode { mode < length set.now.modes }
-    requires hand { InHand (doc_at set.now mode) draft }
-    requires left { IsLeft draft }
+    requires hand { InHand (doc_at set.now mode) draft.old }
+    requires left { IsLeft draft.old }
     requires fits { FitsLine (meaning item.now) }
-    ensures ok { IfOk result (λ next. Follows mode (doc_at set.now mode) line (λ rest. draft_due (doc_at set.now mode) draft.entry (line_at line (meaning item.now) rest)) next) }
-    ensures err { IfErr result (λ e. (rest : Items) → Fails e (draft_due (doc_at set.now mode) draft.entry (line_at line (meaning item.now) rest))) }
+
+    ensures ok { IfOk result (λ next. Follows mode (doc_at set.now mode) line
+        (λ rest. draft_due (doc_at set.now mode) draft.old (line_at line (meaning item.now) rest))
+        (now_due (Inside.Rest draft.new) next)) }
+    ensures err { IfErr result (λ e. (rest : Items) → Fails e
+        (draft_due (doc_at set.now mode) draft.old (line_at line (meaning item.now) rest))) }
 {
     draft.take(alloc, set, mode, line, item)?;
-    Ok(after_lines(draft))
+    if draft.is_whole() {
+        return Ok(Next::Plan(Some(draft.finish(alloc))));
+    }
+    Ok(Next::More)
 }
 
 /// Takes the line with the starts of a schedule of so many rounds.
@@ -91,24 +101,29 @@ fn take_starts<'a>(
 {
     let starts = starts_of(alloc, rounds, line, item)?;
     let draft = Draft::begin(alloc, apps_of(set, mode), starts)?;
-    Ok(after_lines(draft))
+    Ok(after_starts(alloc, draft))
 }
 
 /// Takes the line of a node in a tree.
 fn take_node<'a>(
-    mut walk: Walk,
+    walk: &mut Walk,
     mode: u32,
     line: u64,
     item: &PlanLine<'_>,
 ) -> Result<Next<'a>, Refused>
-    requires kept { IsWalk walk }
+    requires kept { IsWalk walk.old }
     requires fits { FitsLine (meaning item.now) }
-    ensures ok { IfOk result (λ next. (d : DocMode) → IsInside d (Inside.Node walk) → Follows mode d line (λ rest. inside_due mode d (Inside.Node walk) (line_at line (meaning item.now) rest)) next) }
-    ensures err { IfErr result (λ e. (d : DocMode) (rest : Items) → Fails e (inside_due mode d (Inside.Node walk) (line_at line (meaning item.now) rest))) }
+
+    ensures ok { IfOk result (λ next. (d : DocMode) → IsInside d (Inside.Node walk.old) →
+        Follows mode d line
+        (λ rest. inside_due mode d (Inside.Node walk.old) (line_at line (meaning item.now) rest))
+        (now_due (Inside.Node walk.new) next)) }
+    ensures err { IfErr result (λ e. (d : DocMode) (rest : Items) → Fails e
+        (inside_due mode d (Inside.Node walk.old) (line_at line (meaning item.now) rest))) }
 {
     let rounds = walk.rounds();
     if walk.take(mode, line, item)? {
-        return Ok(Next::Due(Inside::Node(walk)));
+        return Ok(Next::More);
     }
     Ok(Next::Due(Inside::Count(rounds + 1)))
 }
@@ -186,7 +201,7 @@ fn take_count<'a>(
 impl<'a> Inside<'a> {
     /// Takes a line inside the mode of this number.
     pub(crate) fn take(
-        self,
+        &mut self,
         alloc: Global,
         set: &'a ModeSet,
         mode: u32,
@@ -195,15 +210,20 @@ impl<'a> Inside<'a> {
     ) -> Result<Next<'a>, Refused>
         requires rules { KeepsRules set.now }
         requires mode { mode < length set.now.modes }
-        requires inside { IsInside (doc_at set.now mode) self }
+        requires inside { IsInside (doc_at set.now mode) self.old }
         requires fits { FitsLine (meaning item.now) }
-        ensures ok { IfOk result (λ next. Follows mode (doc_at set.now mode) line (λ rest. inside_due mode (doc_at set.now mode) self.entry (line_at line (meaning item.now) rest)) next) }
-        ensures err { IfErr result (λ e. (rest : Items) → Fails e (inside_due mode (doc_at set.now mode) self.entry (line_at line (meaning item.now) rest))) }
+
+        ensures ok { IfOk result (λ next. Follows mode (doc_at set.now mode) line
+            (λ rest. inside_due mode (doc_at set.now mode) self.old
+            (line_at line (meaning item.now) rest))
+            (now_due self.new next)) }
+        ensures err { IfErr result (λ e. (rest : Items) → Fails e (inside_due mode
+            (doc_at set.now mode) self.old (line_at line (meaning item.now) rest))) }
     {
         match self {
-            Inside::Count(rounds) => take_count(alloc, set, mode, rounds, line, item),
+            Inside::Count(rounds) => take_count(alloc, set, mode, *rounds, line, item),
             Inside::Node(walk) => take_node(walk, mode, line, item),
-            Inside::Starts(rounds) => take_starts(alloc, set, mode, rounds, line, item),
+            Inside::Starts(rounds) => take_starts(alloc, set, mode, *rounds, line, item),
             Inside::Rest(draft) => take_rest(alloc, set, mode, draft, line, item),
         }
     }

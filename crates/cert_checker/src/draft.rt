@@ -16,6 +16,7 @@ use app_graph::{App, ListOf, ModeSet};
 use proof_tree::PlanLine;
 use sched_model::Schedule;
 use std::alloc::{AllocError, Global};
+use std::mem;
 use tick_num::Time;
 
 /// The parts of a schedule that were read, and the names that are due in it.
@@ -151,26 +152,18 @@ impl<'a> Draft<'a> {
         self.take_table(alloc, set, mode, line, item)
     }
 
-    /// The schedule that was read.
-    pub(crate) fn finish(self) -> Schedule
-        ensures starts { result.starts ≡ self.entry.starts.items }
-        ensures tasks { result.tasks ≡ self.entry.tasks.items }
-        ensures messages { result.messages ≡ self.entry.messages.items }
-        ensures tables { result.tables ≡ self.entry.tables.items }
+    /// Hands out the schedule that was read.
+    pub(crate) fn finish(&mut self, alloc: Global) -> Schedule
+        ensures starts { result.starts ≡ self.old.starts.items }
+        ensures tasks { result.tasks ≡ self.old.tasks.items }
+        ensures messages { result.messages ≡ self.old.messages.items }
+        ensures tables { result.tables ≡ self.old.tables.items }
     {
-        let Draft {
-            task_names: _task_names,
-            message_names: _message_names,
-            starts,
-            tasks,
-            messages,
-            tables,
-        } = self;
         Schedule {
-            starts: ListOf::from_vec(starts),
-            tasks: ListOf::from_vec(tasks),
-            messages: ListOf::from_vec(messages),
-            tables: ListOf::from_vec(tables),
+            starts: ListOf::from_vec(mem::replace(&mut self.starts, Vec::new(alloc))),
+            tasks: ListOf::from_vec(mem::replace(&mut self.tasks, Vec::new(alloc))),
+            messages: ListOf::from_vec(mem::replace(&mut self.messages, Vec::new(alloc))),
+            tables: ListOf::from_vec(mem::replace(&mut self.tables, Vec::new(alloc))),
         }
     }
 }

@@ -71,7 +71,7 @@ pub fn check_from<F: Files>(
     let mut checker = Checker::begin(alloc);
     loop {
         match reader.advance(files, name) {
-            Ok(true) => checker = checker.take(alloc, set, reader.line())?,
+            Ok(true) => checker.take(alloc, set, reader.line())?,
             Ok(false) => break,
             Err(LineEnd::Long) => return Err(CheckEnd::Refused(checker.no_form())),
             Err(LineEnd::Failed) => return Err(CheckEnd::ReadFault),

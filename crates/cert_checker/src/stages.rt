@@ -1,6 +1,6 @@
 //! A document, read line by line.
 
-ghost use Rattle.std.specs.Prelude.{◌≡◌, ◌+◌, ◌<◌, ◌≤◌, ◌∷◌, [], ◌++◌, List, Option, Ok, Some, length, IfOk, IfErr, OnOk, IsTrue};
+ghost use Rattle.std.specs.Prelude.{◌≡◌, ◌+◌, ◌<◌, ◌≤◌, ◌∷◌, [], ◌++◌, List, Option, Ok, Some, length, IfOk, IfErr, OnOk, IsTrue, unwrap_or};
 ghost use Rattle.app_graph.specs.Validation.{KeepsRules};
 ghost use Rattle.proof_tree.specs.Accepting.{IsRight, doc_modes};
 ghost use Rattle.proof_tree.specs.PlanLines.{meaning};
@@ -154,63 +154,110 @@ fn take_mode<'a>(
     Ok(Stage::Nothing)
 }
 
-/// Takes a line inside the mode that comes after those whose plans were read.
+/// Takes a line inside the mode that comes after those whose plans were read. Answers what is due next, where
+/// it is not what `inside` says now.
 fn take_inside<'a>(
     alloc: Global,
     set: &'a ModeSet,
     plans: &mut Vec<Option<Schedule>>,
-    inside: Inside<'a>,
+    inside: &mut Inside<'a>,
     line: u64,
     item: &PlanLine<'_>,
-) -> Result<Stage<'a>, Refused>
+) -> Result<Option<Stage<'a>>, Refused>
     requires rules { KeepsRules set.now }
-    requires stage { IsStage set.now plans.old.items (Stage.Within inside) }
+    requires stage { IsStage set.now plans.old.items (Stage.Within inside.old) }
     requires right { FrontRight (doc_modes set.now) plans.old.items }
     requires fits { FitsLine (meaning item.now) }
-    ensures stage { IfOk result (λ next. IsStage set.now plans.new.items next) }
+
+    ensures stage { IfOk result (λ next. IsStage set.now plans.new.items
+        (unwrap_or next (Stage.Within inside.new))) }
     ensures right { OnOk result (FrontRight (doc_modes set.now) plans.new.items) }
-    ensures goes { IfOk result (λ next. (rest : Items) → document_due set.now plans.old.items (Stage.Within inside.entry) (line_at line (meaning item.now) rest) ≡ document_due set.now plans.new.items next (behind_line line rest)) }
-    ensures err { IfErr result (λ e. (rest : Items) → Refutes set.now e (document_due set.now plans.old.items (Stage.Within inside.entry) (line_at line (meaning item.now) rest))) }
+    ensures goes { IfOk result (λ next. (rest : Items) →
+        document_due set.now plans.old.items (Stage.Within inside.old)
+        (line_at line (meaning item.now) rest)
+        ≡ document_due set.now plans.new.items (unwrap_or next (Stage.Within inside.new))
+        (behind_line line rest)) }
+    ensures err { IfErr result (λ e. (rest : Items) → Refutes set.now e
+        (document_due set.now plans.old.items (Stage.Within inside.old)
+        (line_at line (meaning item.now) rest))) }
 {
     let mode = number_of(set, plans.len());
     match inside.take(alloc, set, mode, line, item)? {
-        Next::Due(inside) => Ok(Stage::Within(inside)),
+        Next::More => Ok(None),
+        Next::Due(next) => Ok(Some(Stage::Within(next))),
         Next::Plan(plan) => {
             check_plan(set, mode, &plan)?;
             plans.push(plan)?;
-            Ok(Stage::Mode)
+            Ok(Some(Stage::Mode))
         }
     }
 }
 
 impl<'a> Stage<'a> {
-    /// Takes a line, after those whose plans were read, and answers what is due next.
-    pub(crate) fn take(
-        self,
+    /// Takes a line, after those whose plans were read, and answers what is due next, where it is not what the
+    /// stage says now. A tree or a schedule that goes on is changed in place.
+    fn next(
+        &mut self,
         alloc: Global,
         set: &'a ModeSet,
         plans: &mut Vec<Option<Schedule>>,
         line: u64,
         item: &PlanLine<'_>,
-    ) -> Result<Stage<'a>, Refused>
+    ) -> Result<Option<Stage<'a>>, Refused>
         requires rules { KeepsRules set.now }
-        requires stage { IsStage set.now plans.old.items self }
+        requires stage { IsStage set.now plans.old.items self.old }
         requires right { FrontRight (doc_modes set.now) plans.old.items }
         requires fits { FitsLine (meaning item.now) }
-        ensures stage { IfOk result (λ next. IsStage set.now plans.new.items next) }
+
+        ensures stage { IfOk result (λ next. IsStage set.now plans.new.items
+            (unwrap_or next self.new)) }
         ensures right { OnOk result (FrontRight (doc_modes set.now) plans.new.items) }
-        ensures goes { IfOk result (λ next. (rest : Items) → document_due set.now plans.old.items self.entry (line_at line (meaning item.now) rest) ≡ document_due set.now plans.new.items next (behind_line line rest)) }
-        ensures err { IfErr result (λ e. (rest : Items) → Refutes set.now e (document_due set.now plans.old.items self.entry (line_at line (meaning item.now) rest))) }
+        ensures goes { IfOk result (λ next. (rest : Items) →
+            document_due set.now plans.old.items self.old (line_at line (meaning item.now) rest)
+            ≡ document_due set.now plans.new.items (unwrap_or next self.new)
+            (behind_line line rest)) }
+        ensures err { IfErr result (λ e. (rest : Items) → Refutes set.now e
+            (document_due set.now plans.old.items self.old
+            (line_at line (meaning item.now) rest))) }
     {
         match self {
             Stage::Head => {
                 take_head(line, item)?;
-                Ok(Stage::Mode)
+                Ok(Some(Stage::Mode))
             }
-            Stage::Mode => take_mode(set, plans.len(), line, item),
+            Stage::Mode => Ok(Some(take_mode(set, plans.len(), line, item)?)),
             Stage::Within(inside) => take_inside(alloc, set, plans, inside, line, item),
             Stage::Nothing => Err(Refused::Grammar(line)),
         }
+    }
+
+    /// Takes a line, after those whose plans were read.
+    pub(crate) fn take(
+        &mut self,
+        alloc: Global,
+        set: &'a ModeSet,
+        plans: &mut Vec<Option<Schedule>>,
+        line: u64,
+        item: &PlanLine<'_>,
+    ) -> Result<(), Refused>
+        requires rules { KeepsRules set.now }
+        requires stage { IsStage set.now plans.old.items self.old }
+        requires right { FrontRight (doc_modes set.now) plans.old.items }
+        requires fits { FitsLine (meaning item.now) }
+
+        ensures stage { OnOk result (IsStage set.now plans.new.items self.new) }
+        ensures right { OnOk result (FrontRight (doc_modes set.now) plans.new.items) }
+        ensures goes { OnOk result ((rest : Items) →
+            document_due set.now plans.old.items self.old (line_at line (meaning item.now) rest)
+            ≡ document_due set.now plans.new.items self.new (behind_line line rest)) }
+        ensures err { IfErr result (λ e. (rest : Items) → Refutes set.now e
+            (document_due set.now plans.old.items self.old
+            (line_at line (meaning item.now) rest))) }
+    {
+        if let Some(next) = self.next(alloc, set, plans, line, item)? {
+            *self = next;
+        }
+        Ok(())
     }
 
     /// Whether no line is due any more.

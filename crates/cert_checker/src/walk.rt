@@ -49,7 +49,8 @@ impl Walk {
 
     /// The number of rounds.
     pub(crate) fn rounds(&self) -> u64
-        ensures { result ≡ self.now.problem.rounds }
+        ensures count { result ≡ self.now.problem.rounds }
+        ensures few { result ≤ 4294967295 }
     {
         self.problem.rounds() as u64
     }

@@ -17,18 +17,18 @@ loop-bytes-init c = record {
 pub loop-bytes-preserved : goal.loop-bytes-preserved
 loop-bytes-preserved c = record {
   within = c.in-Some.ensures.within;
-  ready = c.in_ok-checker.ensures.ready;
-  goes = c.loop-bytes.invariant.goes ∙ ap (leads c.args.set.now c.loop-bytes.checker) c.in-Some.ensures.line ∙ c.in_ok-checker.ensures.leads (lines (drop c.in-Some.next c.args.text.now));
+  ready = c.in_ok-take.ensures.ready;
+  goes = c.loop-bytes.invariant.goes ∙ ap (leads c.args.set.now c.loop-bytes.checker) c.in-Some.ensures.line ∙ c.in_ok-take.ensures.leads (lines (drop c.in-Some.next c.args.text.now));
 }
 
-pub returns-in_err-checker-clause-refused : goal.returns-in_err-checker-clause-refused
-returns-in_err-checker-clause-refused c =
+pub returns-in_err-take-clause-refused : goal.returns-in_err-take-clause-refused
+returns-in_err-take-clause-refused c =
     let set = c.args.set.now in
     let text = c.args.text.now in
     let l = c.loop-bytes in
-    let e = c.in_err-checker.field-0.0 in
+    let e = c.in_err-take.field-0.0 in
     let goes = l.invariant.goes ∙ ap (leads set l.checker) c.in-Some.ensures.line in
-    handed_on c.from_residual.result e _ c.from_residual.ensures.1 (refuses_from set text _ e goes (c.in_err-checker.ensures.err (lines (drop c.in-Some.next text))))
+    handed_on c.from_residual.result e _ c.from_residual.ensures.1 (refuses_from set text _ e goes (c.in_err-take.ensures.err (lines (drop c.in-Some.next text))))
 
 -- nothing is left of the text
 left_none : (text : List ℕ) (from : ℕ) → from ≡ length text → lines (drop from text) ≡ []

@@ -1,8 +1,15 @@
+use Rattle.std.proofs.Common.{rules, IsTrue, ◌∙◌}
 use Rattle.cert_checker.specs.DraftReading.{doc_at}
+use Rattle.cert_checker.specs.TreeStack.{behind_line}
+use Rattle.cert_checker.proofs.Drafts.{whole_follows}
 use Rattle.cert_checker.proofs.Modes.{follows_from}
 use Rattle.cert_checker.proofs.counts.take_rest.Goals as goal
 
-pub returns-clause-ok : goal.returns-clause-ok
-returns-clause-ok c =
+pub returns-then-is_whole-clause-ok : goal.returns-then-is_whole-clause-ok
+returns-then-is_whole-clause-ok c =
     let d = doc_at c.args.set.now c.args.mode in
-    follows_from c.args.mode d c.args.line _ _ c.after_lines.result c.in_ok-take.ensures.goes (c.after_lines.ensures c.args.mode c.args.line d c.in_ok-take.ensures.kept)
+    let hand = c.in_ok-take.ensures.kept in
+    let yes : IsTrue c.is_whole.result = search rules in
+    let f = c.finish.ensures in
+    let whole = whole_follows c.args.mode c.args.line d c.take.new.self c.finish.result hand (c.is_whole.ensures.yes yes d hand) f.starts f.tasks f.messages f.tables in
+    (whole.0, λ rest. c.in_ok-take.ensures.goes rest ∙ whole.1 rest)

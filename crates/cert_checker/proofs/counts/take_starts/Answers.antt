@@ -30,7 +30,7 @@ returns-clause-ok c =
     let count = ap length x.starts ∙ starts.count in
     let hand = begun_in_hand d s c.args.rounds (named_at set mode c.requires.rules c.requires.mode) tasks messages count c.requires.some
     (subst (λ (l : List ℤ). All IsTime l) (sym x.starts) starts.few) x.tasks x.messages x.tables in
-    follows_from mode d c.args.line _ _ c.after_lines.result
+    follows_from mode d c.args.line _ _ c.after_starts.result
     (λ rest. schedule_starts d c.args.rounds (line_at c.args.line (meaning c.args.item.now) rest) (behind_line c.args.line rest) ss (starts.ok rest) starts.count
     ∙ sym (begun_due d s ss (behind_line c.args.line rest) x.starts x.tasks x.messages x.tables))
-    (c.after_lines.ensures mode c.args.line d hand)
+    (c.after_starts.ensures mode c.args.line d hand)

@@ -40,8 +40,8 @@ loop-checker-preserved g c =
     let set = c.args.set.now in
     let l = c.loop-checker in
     let new = c.advance.new.self in
-    let more = c.in_ok-checker-in-Ok-true in
-    let next = more.checker in
+    let more = c.in_ok-take-in-Ok-true in
+    let next = c.take.new.self in
     let all_kept = c.in-Ok-true.ensures.kept ∙ l.invariant.kept in
     let before = ap (λ (f : List ℕ → Told). f c.args.name.now) l.invariant.kept in
     let behind = ap (λ (f : List ℕ → Told). f c.args.name.now) all_kept in
@@ -59,21 +59,21 @@ loop-checker-preserved g c =
       counted = omega (arith, c.in-Ok-true.ensures.counted, l.invariant.counted);
     }
 
-pub returns-in_err-checker-in-Ok-true-clause-refused : goal.returns-in_err-checker-in-Ok-true-clause-refused
-returns-in_err-checker-in-Ok-true-clause-refused g c =
+pub returns-in_err-take-in-Ok-true-clause-refused : goal.returns-in_err-take-in-Ok-true-clause-refused
+returns-in_err-take-in-Ok-true-clause-refused g c =
     let told = g.F.Files.contents c.args.files.now c.args.name.now in
     let set = c.args.set.now in
     let l = c.loop-checker in
     let new = c.advance.new.self in
-    let e = c.in_err-checker-in-Ok-true.field-0.0 in
+    let e = c.in_err-take-in-Ok-true.field-0.0 in
     let before = ap (λ (f : List ℕ → Told). f c.args.name.now) l.invariant.kept in
     let behind = ap (λ (f : List ℕ → Told). f c.args.name.now) (c.in-Ok-true.ensures.kept ∙ l.invariant.kept) in
     let is : c.in-Ok-true.field-0 ≡ true = search rules in
     let hands = hands_at (g.F.Files.contents l.files c.args.name.now) told l.reader new (g.F.Files.faults l.files) (g.F.Files.faults c.advance.new.files) c.in-Ok-true.field-0 before is (c.in-Ok-true.ensures.answer l.invariant.refusal) in
     let of_file = subst (λ (t : Told). IsOf t new) behind c.in-Ok-true.ensures.of_file in
     let line : c.line.result.now ≡ new.line = c.line.ensures in
-    handed_on c.from_residual-in_err-checker-in-Ok-true.result (ends.Refused e) _ c.from_residual-in_err-checker-in-Ok-true.ensures.1
-    (refuses_line told set l.checker e l.reader new l.invariant.goes hands of_file (λ rest. subst (λ (b : List ℕ). Refutes set e (leads set l.checker (b ∷ rest))) line (c.in_err-checker-in-Ok-true.ensures.err rest)))
+    handed_on c.from_residual-in_err-take-in-Ok-true.result (ends.Refused e) _ c.from_residual-in_err-take-in-Ok-true.ensures.1
+    (refuses_line told set l.checker e l.reader new l.invariant.goes hands of_file (λ rest. subst (λ (b : List ℕ). Refutes set e (leads set l.checker (b ∷ rest))) line (c.in_err-take-in-Ok-true.ensures.err rest)))
 
 pub returns-in-Err-Long-clause-refused : goal.returns-in-Err-Long-clause-refused
 returns-in-Err-Long-clause-refused g c =

@@ -2,8 +2,9 @@ use Rattle.std.proofs.Common.{subst, sym}
 use Rattle.std.proofs.lemmas.Result.{IfErr-weaker, IfOk-weaker}
 use Rattle.proof_tree.specs.PlanLines.{meaning}
 use Rattle.cert_checker.specs.declared.counts.Inside.{Inside}
+use Rattle.cert_checker.specs.declared.counts.Inside.TheVariants.{Node}
 use Rattle.cert_checker.specs.DraftReading.{doc_at}
-use Rattle.cert_checker.specs.ModeReading.{Follows, IsInside, inside_due}
+use Rattle.cert_checker.specs.ModeReading.{Follows, IsInside, inside_due, now_due}
 use Rattle.cert_checker.specs.Refusals.{Fails}
 use Rattle.cert_checker.specs.TreeStack.{line_at}
 use Rattle.cert_checker.proofs.counts.Inside.take.Goals as goal
@@ -16,7 +17,7 @@ returns-in-Count-clause-err c =
 pub returns-in-Node-clause-ok : goal.returns-in-Node-clause-ok
 returns-in-Node-clause-ok c =
     let d = doc_at c.args.set.now c.args.mode in
-    IfOk-weaker c.take_node.result _ _ (λ next h. subst (λ (i : Inside). Follows c.args.mode d c.args.line (λ rest. inside_due c.args.mode d i (line_at c.args.line (meaning c.args.item.now) rest)) next) (sym c.in-Node.is)
+    IfOk-weaker c.take_node.result _ _ (λ next h. subst (λ (i : Inside). Follows c.args.mode d c.args.line (λ rest. inside_due c.args.mode d i (line_at c.args.line (meaning c.args.item.now) rest)) (now_due (Node c.take_node.new.walk) next)) (sym c.in-Node.is)
     (h d (subst (IsInside d) c.in-Node.is c.requires.inside))) c.take_node.ensures.ok
 
 pub returns-in-Node-clause-err : goal.returns-in-Node-clause-err

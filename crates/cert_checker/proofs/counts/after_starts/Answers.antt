@@ -1,6 +1,6 @@
 use Rattle.std.proofs.Common.{rules, IsTrue}
 use Rattle.cert_checker.proofs.Drafts.{whole_follows}
-use Rattle.cert_checker.proofs.counts.after_lines.Goals as goal
+use Rattle.cert_checker.proofs.counts.after_starts.Goals as goal
 
 pub returns-then-is_whole : goal.returns-then-is_whole
 returns-then-is_whole c =
