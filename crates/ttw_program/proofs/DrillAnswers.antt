@@ -38,11 +38,11 @@ use Rattle.drill.specs.declared.summary.Summary.{Summary}
 use Rattle.ttw_program.specs.Bodies.{body_name, no_body_line}
 use Rattle.ttw_program.specs.Drills.{CountsRun, DrillDue, IsDrilled, OfParts, all_offsets, all_rounds, drill_budget, summary_of}
 use Rattle.ttw_program.specs.FaultLines.{budget_line}
-use Rattle.ttw_program.specs.PlanFiles.{OfSchedules}
+use Rattle.file_answers.specs.PlanFiles.{OfSchedules}
 use Rattle.ttw_program.specs.Plans.{PlansMode, SpendsFirst}
-use Rattle.ttw_program.specs.declared.answers.Answer.{Answer}
-use Rattle.ttw_program.specs.declared.status.Status.{Status}
-use Rattle.ttw_program.specs.declared.status.Status.TheVariants.{Budget, ModeFile}
+use Rattle.file_answers.specs.declared.answers.Answer.{Answer}
+use Rattle.file_answers.specs.declared.status.Status.{Status}
+use Rattle.file_answers.specs.declared.status.Status.TheVariants.{Budget, ModeFile}
 
 -- ---- the parts as schedules
 

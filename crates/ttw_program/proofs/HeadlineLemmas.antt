@@ -1,5 +1,5 @@
 -- Why the headline holds
-use Rattle.std.proofs.Common.{◌≡◌, ◌⊎◌, ℕ, ◌≤◌, ◌&&◌, Bool, true, false, cond, nat_eq, List, [], ◌∷◌, length, Option, Some, None, refl, sym, ◌∙◌, ap, subst, arith, inl, inr}
+use Rattle.std.proofs.Common.{◌≡◌, ◌⊎◌, ℕ, ◌&&◌, Bool, true, false, cond, nat_eq, List, [], ◌∷◌, Option, Some, None, refl, sym, ◌∙◌, ap, subst, inl, inr}
 use Rattle.std.specs.Prelude.{if◌then◌else◌, option_map, is_some, ℤ, slice_index_or}
 use Rattle.std.specs.List.{AllZip, list_all}
 use Rattle.std.proofs.lemmas.Bool.{eqb-true, and_parts}
@@ -43,14 +43,15 @@ use Rattle.world_core.proofs.OneSenders.{one_sender}
 use Rattle.replayer.proofs.Fronts.{fits_back}
 use Rattle.replayer.proofs.Lengths.{scripts_are_short}
 use Rattle.ttw_program.specs.Commands.{Command}
-use Rattle.ttw_program.specs.Due.{OfCommand, OfSet, PlanDue}
+use Rattle.ttw_program.specs.Due.{OfCommand, PlanDue}
+use Rattle.file_answers.specs.Due.{OfSet}
 use Rattle.ttw_program.specs.Headline.{HasFewest, HasOneSender, Headline, IsCertified, IsSafeReplay, PlanHolds, ReplayHolds}
-use Rattle.ttw_program.specs.PlanFiles.{IsRefused, OfPlan, OfSchedules}
+use Rattle.file_answers.specs.PlanFiles.{IsRefused, OfPlan, OfSchedules}
 use Rattle.ttw_program.specs.Plans.{SpendsFirst}
 use Rattle.ttw_program.specs.Replays.{IsTrace, ReplayDue, TraceDue}
 use Rattle.ttw_program.specs.ScriptFiles.{OfScript}
-use Rattle.ttw_program.specs.declared.status.Status.{Status}
-use Rattle.ttw_program.specs.declared.status.Status.TheVariants.{Done, NoSchedule, Budget}
+use Rattle.file_answers.specs.declared.status.Status.{Status}
+use Rattle.file_answers.specs.declared.status.Status.TheVariants.{Done, NoSchedule, Budget}
 use Rattle.ttw_program.proofs.PlanAnswers.{within_parts}
 use Rattle.ttw_program.proofs.TableAnswers.{schedules_right}
 

@@ -1,4 +1,3 @@
-pub mod Answering
 pub mod EndingLemmas
 pub mod PlanAnswers
 pub mod CheckAnswers

@@ -1,5 +1,5 @@
 -- Why one answer is due
-use Rattle.std.proofs.Common.{◌≡◌, ℕ, suc, List, [], ◌∷◌, ◌++◌, length, map, Option, Some, None, refl, sym, ◌∙◌, ap, subst, arith, inl, inr, position}
+use Rattle.std.proofs.Common.{◌≡◌, ℕ, suc, List, [], ◌∷◌, ◌++◌, length, map, Option, Some, None, refl, sym, ◌∙◌, ap, subst, inl, inr, position}
 use Rattle.std.specs.Str.{bytes_eq}
 use Rattle.std.specs.List.{AllZip}
 use Rattle.std.proofs.lemmas.Option.{same_Some}
@@ -28,14 +28,15 @@ use Rattle.replayer.proofs.Spelling.{scripts_spell_once}
 use Rattle.ttw_program.specs.Bodies.{OfBodies, body_name, no_body_line}
 use Rattle.ttw_program.specs.Checks.{CheckDue, IsVerdict}
 use Rattle.ttw_program.specs.Commands.{Command, plan, check, tables, replay, drill, guard, none, command}
-use Rattle.ttw_program.specs.Due.{OfCommand, OfSet}
-use Rattle.ttw_program.specs.FaultLines.{file_fault_line}
+use Rattle.ttw_program.specs.Due.{OfCommand}
+use Rattle.file_answers.specs.Due.{OfSet}
+use Rattle.file_answers.specs.FaultLines.{file_fault_line}
 use Rattle.ttw_program.specs.OneAnswer.{AllTold, OneAnswer, OneDue, ReadsPlan}
-use Rattle.ttw_program.specs.PlanFiles.{IsRefused, OfPlan, OfSchedules, none_line, refusal_line}
+use Rattle.file_answers.specs.PlanFiles.{IsRefused, OfPlan, OfSchedules, none_line, refusal_line}
 use Rattle.ttw_program.specs.Replays.{IsTrace, ReplayDue, TraceDue}
 use Rattle.ttw_program.specs.ScriptFiles.{OfScript, script_line}
 use Rattle.ttw_program.specs.Tables.{ImageDue, IsImage, OfNode, TablesDue}
-use Rattle.ttw_program.specs.declared.status.Status.{Status}
+use Rattle.file_answers.specs.declared.status.Status.{Status}
 use Rattle.ttw_program.proofs.DrillAnswers.{asks_fit}
 use Rattle.ttw_program.proofs.HeadlineLemmas.{accepted_once, reads_keep, taken}
 use Rattle.ttw_program.proofs.TableAnswers.{schedules_right}

@@ -15,13 +15,13 @@ use Rattle.replay_script.proofs.LongTexts.{faultless_is_short}
 use Rattle.runtime_model.specs.Plans.{AreSchedules}
 use Rattle.world_core.specs.StandsFor.{HaveBodies, StandsFor}
 use Rattle.world_core.specs.Worlds.{WorldSeen}
-use Rattle.ttw_program.specs.declared.answers.Answer.{Answer}
-use Rattle.ttw_program.specs.declared.answers.End.{End}
+use Rattle.file_answers.specs.declared.answers.Answer.{Answer}
+use Rattle.file_answers.specs.declared.answers.End.{End}
 use Rattle.ttw_program.specs.declared.replaying.Reply.{Reply}
 use Rattle.ttw_program.specs.declared.replaying.Reply.TheVariants.{Text, Trace}
 use Rattle.ttw_program.specs.declared.script_files.ScriptFile.{ScriptFile}
 use Rattle.ttw_program.specs.declared.script_files.ScriptFile.TheVariants.{Lines, Refused}
-use Rattle.ttw_program.specs.declared.status.Status.{Status}
+use Rattle.file_answers.specs.declared.status.Status.{Status}
 use Rattle.ttw_program.specs.Replays.{IsReplay, IsReply, IsTrace, TraceDue}
 use Rattle.ttw_program.specs.ScriptFiles.{OfScript, ScriptSaid, ScriptSaidOf}
 

@@ -2,7 +2,7 @@
 use Rattle.std.proofs.Common.{◌≡◌, ℕ, zero, suc, ◌+◌, ◌/◌, ◌<◌, ◌≤◌, min, List, [], ◌∷◌, ◌++◌, length, get_or, map, take, drop, Option, Some, None, ⊎_elim, refl, sym, ◌∙◌, ap, subst, arith, append_assoc, append-nil, length-append}
 use Rattle.std.specs.List.{AllZip}
 use Rattle.std.proofs.lemmas.Bool.{cases_lt}
-use Rattle.std.proofs.lemmas.List.{length-map, map-append}
+use Rattle.std.proofs.lemmas.List.{length-map}
 use Rattle.std.proofs.lemmas.Slice.Zip.{AllZip-long}
 use Rattle.std.proofs.Math.Seq.{take-append_seam, drop-append_seam}
 use Rattle.app_graph.specs.declared.mode_set.Mode.{Mode}
@@ -15,28 +15,10 @@ use Rattle.sched_model.proofs.TaskNumbers.{few_modes}
 use Rattle.proof_tree.specs.Accepting.{IsRight, doc_mode, doc_modes}
 use Rattle.runtime_model.specs.Plans.{no_schedule}
 use Rattle.runtime_model.specs.Plans.{AreSchedules}
-use Rattle.ttw_program.specs.PlanFiles.{LacksFirst}
+use Rattle.file_answers.specs.PlanFiles.{LacksFirst}
 use Rattle.ttw_program.specs.Tables.{hex_line, hex_lines, hex_text}
 
 -- ---- schedules
-
--- one schedule more
-pub next_schedule : (plans rest left : List (Option Schedule)) (old new : List Schedule) (s : Schedule) → map Some old ++ left ≡ plans → left ≡ Some s ∷ rest → new ≡ old ++ s ∷ [] → map Some new ++ rest ≡ plans
-next_schedule plans rest left old new s whole first add =
-    ap (λ (xs : List Schedule). map Some xs ++ rest) add
-    ∙ ap (λ (ys : List (Option Schedule)). ys ++ rest) (map-append Some old (s ∷ []))
-    ∙ append_assoc (map Some old) (Some s ∷ []) rest
-    ∙ ap (λ (ys : List (Option Schedule)). map Some old ++ ys) (sym first)
-    ∙ whole
-
--- a mode without one
-pub lacks_one : (plans rest left : List (Option Schedule)) (old : List Schedule) (n : ℕ) → map Some old ++ left ≡ plans → left ≡ None ∷ rest → length old ≡ n → LacksFirst plans n
-lacks_one plans rest left old n whole first count = (old, rest, sym whole ∙ ap (λ (ys : List (Option Schedule)). map Some old ++ ys) first, count)
-
--- all of them
-pub all_schedules : (plans left : List (Option Schedule)) (old : List Schedule) → map Some old ++ left ≡ plans → length left ≡ 0 → plans ≡ map Some old
-all_schedules plans [] old whole none = sym whole ∙ append-nil (map Some old)
-all_schedules plans (p ∷ left) old whole none = absurd (omega (arith, none))
 
 right_at : (set : ModeSet) (modes : List Mode) (schedules : List Schedule) → AllZip IsRight (map (doc_mode set) modes) (map Some schedules) → (i : ℕ) → i < length modes → (d : Mode) →
     let s = get_or schedules i no_schedule in IsSchedule (plain_mode set (get_or modes i d)) (length s.starts) s

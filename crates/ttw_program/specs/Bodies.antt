@@ -4,8 +4,8 @@ use Rattle.app_graph.specs.declared.mode_set.ModeSet.{ModeSet}
 use Rattle.task_body.specs.Body.{BodySeen}
 use Rattle.world_core.specs.StandsFor.{HaveBodies, body_names}
 use Rattle.world_core.specs.TaskBodies.{missing}
-use Rattle.ttw_program.specs.declared.status.Status.{Status}
-use Rattle.ttw_program.specs.declared.status.Status.TheVariants.{ModeFile}
+use Rattle.file_answers.specs.declared.status.Status.{Status}
+use Rattle.file_answers.specs.declared.status.Status.TheVariants.{ModeFile}
 
 -- the name of the body of the task of this number over the file
 abbrev pub body_name : ModeSet → ℕ → List ℕ

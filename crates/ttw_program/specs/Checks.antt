@@ -5,9 +5,9 @@ use Rattle.ttw_text.specs.Numbers.{spelled}
 use Rattle.app_graph.specs.declared.mode_set.ModeSet.{ModeSet}
 use Rattle.app_graph.specs.declared.mode_set.Mode.{Mode}
 use Rattle.sched_model.specs.declared.schedule.Schedule.{Schedule}
-use Rattle.ttw_program.specs.PlanFiles.{OfPlan}
-use Rattle.ttw_program.specs.declared.status.Status.{Status}
-use Rattle.ttw_program.specs.declared.status.Status.TheVariants.{Done}
+use Rattle.file_answers.specs.PlanFiles.{OfPlan}
+use Rattle.file_answers.specs.declared.status.Status.{Status}
+use Rattle.file_answers.specs.declared.status.Status.TheVariants.{Done}
 
 -- the number of rounds of a schedule, or that there is none
 abbrev pub rounds_said : Option Schedule → List ℕ

@@ -17,10 +17,10 @@ use Rattle.drill.specs.SummaryLine.{summary_line}
 use Rattle.drill.specs.declared.summary.Summary.{Summary}
 use Rattle.ttw_program.specs.Bodies.{OfBodies}
 use Rattle.ttw_program.specs.FaultLines.{budget_line}
-use Rattle.ttw_program.specs.PlanFiles.{OfSchedules}
+use Rattle.file_answers.specs.PlanFiles.{OfSchedules}
 use Rattle.ttw_program.specs.Plans.{PlansAll, SpendsFirst, VisitsAll}
-use Rattle.ttw_program.specs.declared.status.Status.{Status}
-use Rattle.ttw_program.specs.declared.status.Status.TheVariants.{Done, Budget}
+use Rattle.file_answers.specs.declared.status.Status.{Status}
+use Rattle.file_answers.specs.declared.status.Status.TheVariants.{Done, Budget}
 
 -- the most prefixes that the search of a mode may visit
 abbrev pub drill_budget : ℕ

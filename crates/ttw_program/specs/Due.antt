@@ -3,15 +3,14 @@ use Rattle.std.specs.Prelude.{◌≡◌, ◌⊎◌, ℕ, List}
 use Rattle.ttw_io.specs.Outside.{Told, OfFile}
 use Rattle.task_body.specs.Body.{BodySeen}
 use Rattle.app_graph.specs.declared.mode_set.ModeSet.{ModeSet}
-use Rattle.mode_file.specs.declared.faults.FileFault.{FileFault}
-use Rattle.mode_file.specs.Reading.{Reads, Broken}
 use Rattle.sched_model.specs.PlainMode.{mode_at}
 use Rattle.proof_tree.specs.declared.tree.ModePart.{ModePart}
 use Rattle.proof_tree.specs.PlanText.{plan_text}
 use Rattle.proof_tree.specs.OwnDocument.{OwnDoc}
-use Rattle.ttw_program.specs.declared.status.Status.{Status}
-use Rattle.ttw_program.specs.declared.status.Status.TheVariants.{Usage, ModeFile, Budget}
-use Rattle.ttw_program.specs.FaultLines.{usage_line, file_fault_line, budget_line}
+use Rattle.file_answers.specs.Due.{OfSet}
+use Rattle.file_answers.specs.declared.status.Status.{Status}
+use Rattle.file_answers.specs.declared.status.Status.TheVariants.{Usage, Budget}
+use Rattle.ttw_program.specs.FaultLines.{usage_line, budget_line}
 use Rattle.ttw_program.specs.Plans.{PlansAll, SpendsFirst, plan_status}
 use Rattle.ttw_program.specs.Checks.{CheckDue}
 use Rattle.ttw_program.specs.Tables.{TablesDue}
@@ -19,12 +18,6 @@ use Rattle.ttw_program.specs.Guards.{GuardDue}
 use Rattle.ttw_program.specs.Replays.{ReplayDue}
 use Rattle.ttw_program.specs.Drills.{DrillDue}
 use Rattle.ttw_program.specs.Commands.{Command, plan, check, tables, replay, drill, guard, none, command}
-
--- what a command makes due of the bytes of a mode file: a refusal, or what it makes due of the set that they say
-abbrev pub OfSet : (ModeSet → Status → List ℕ → Type 0) → List ℕ → Status → List ℕ → Type 0
-OfSet Due bytes status text =
-    ((fault : FileFault) × Broken bytes fault × (status ≡ ModeFile) × (text ≡ file_fault_line fault))
-    ⊎ ((set : ModeSet) × Reads bytes set × Due set status text)
 
 -- the document of the search with a part for each mode, or the line of the first mode whose search exceeds the budget
 abbrev pub PlanDue : ℕ → ModeSet → Status → List ℕ → Type 0

@@ -5,8 +5,8 @@ use Rattle.app_graph.specs.declared.mode_set.ModeSet.{ModeSet}
 use Rattle.guard.specs.Guards.{IsGuard, round_of}
 use Rattle.guard.specs.declared.guards.LeastGuard.{LeastGuard}
 use Rattle.guard.specs.declared.guards.Guard.{Guard}
-use Rattle.ttw_program.specs.declared.status.Status.{Status}
-use Rattle.ttw_program.specs.declared.status.Status.TheVariants.{Done}
+use Rattle.file_answers.specs.declared.status.Status.{Status}
+use Rattle.file_answers.specs.declared.status.Status.TheVariants.{Done}
 
 -- some words and a number, as a line
 abbrev pub number_line : List ℕ → ℕ → List ℕ

@@ -1,5 +1,5 @@
 -- What the program promises of a plan and of a replay, in a page
-use Rattle.std.specs.Prelude.{◌≡◌, ◌⊎◌, ℕ, ◌<◌, ◌≤◌, true, List, [], ◌++◌, length, Option, Some, None, slice_index_or}
+use Rattle.std.specs.Prelude.{◌≡◌, ◌⊎◌, ℕ, ◌<◌, true, List, [], ◌++◌, length, Option, Some, None, slice_index_or}
 use Rattle.std.specs.List.{AllZip, AllByRecursion}
 use Rattle.ttw_io.specs.Outside.{Told, file}
 use Rattle.app_graph.specs.declared.mode_set.ModeSet.{ModeSet}
@@ -28,10 +28,10 @@ use Rattle.replayer.specs.Trace.{trace}
 use Rattle.ttw_program.specs.Checks.{CheckDue, accepted_text}
 use Rattle.ttw_program.specs.Commands.{plan, replay, command}
 use Rattle.ttw_program.specs.Due.{Due}
-use Rattle.ttw_program.specs.PlanFiles.{IsRefused}
+use Rattle.file_answers.specs.PlanFiles.{IsRefused}
 use Rattle.ttw_program.specs.Plans.{IsWithin, SpendsFirst}
-use Rattle.ttw_program.specs.declared.status.Status.{Status}
-use Rattle.ttw_program.specs.declared.status.Status.TheVariants.{Done, NoSchedule as Unplanned, Budget}
+use Rattle.file_answers.specs.declared.status.Status.{Status}
+use Rattle.file_answers.specs.declared.status.Status.TheVariants.{Done, NoSchedule as Unplanned, Budget}
 
 -- ---- plans
 

@@ -1,10 +1,6 @@
-pub mod Statuses
 pub mod FaultLines
-pub mod Endings
 pub mod Commands
 pub mod Plans
-pub mod ModeFiles
-pub mod PlanFiles
 pub mod Checks
 pub mod Tables
 pub mod Guards

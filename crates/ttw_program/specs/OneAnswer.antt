@@ -4,7 +4,7 @@ use Rattle.ttw_io.specs.Outside.{Told, untold}
 use Rattle.task_body.specs.Body.{BodySeen}
 use Rattle.ttw_program.specs.Commands.{Command, plan, check, tables, replay, drill, guard, none, command}
 use Rattle.ttw_program.specs.Due.{Due}
-use Rattle.ttw_program.specs.declared.status.Status.{Status}
+use Rattle.file_answers.specs.declared.status.Status.{Status}
 
 -- two statuses and texts that are due are the same
 abbrev pub OneDue : (Status → List ℕ → Type 0) → Type 0

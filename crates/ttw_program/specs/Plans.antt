@@ -10,8 +10,8 @@ use Rattle.proof_tree.specs.OwnDocument.{OwnPart}
 use Rattle.planner.specs.Plans.{IsBest}
 use Rattle.ttw_program.specs.declared.planning.Plans.{Plans}
 use Rattle.ttw_program.specs.declared.planning.Plans.TheVariants.{Made, Spent}
-use Rattle.ttw_program.specs.declared.status.Status.{Status}
-use Rattle.ttw_program.specs.declared.status.Status.TheVariants.{Done, NoSchedule}
+use Rattle.file_answers.specs.declared.status.Status.{Status}
+use Rattle.file_answers.specs.declared.status.Status.TheVariants.{Done, NoSchedule}
 
 -- the search of the mode visits no more prefixes than the budget
 abbrev pub IsWithin : ModeSet → ℕ → Mode → Type 0

@@ -14,10 +14,10 @@ use Rattle.replayer.specs.Trace.{trace}
 use Rattle.ttw_program.specs.declared.replaying.Replay.{Replay}
 use Rattle.ttw_program.specs.declared.replaying.Reply.{Reply}
 use Rattle.ttw_program.specs.declared.replaying.Reply.TheVariants.{Text, Trace}
-use Rattle.ttw_program.specs.declared.status.Status.{Status}
-use Rattle.ttw_program.specs.declared.status.Status.TheVariants.{Done}
+use Rattle.file_answers.specs.declared.status.Status.{Status}
+use Rattle.file_answers.specs.declared.status.Status.TheVariants.{Done}
 use Rattle.ttw_program.specs.Bodies.{OfBodies}
-use Rattle.ttw_program.specs.PlanFiles.{OfPlan, OfSchedules}
+use Rattle.file_answers.specs.PlanFiles.{OfPlan, OfSchedules}
 use Rattle.ttw_program.specs.ScriptFiles.{OfScript}
 
 -- the trace of the events that these lines spell, with these schedules and with the bodies as they are at the call

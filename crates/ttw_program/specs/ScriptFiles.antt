@@ -11,8 +11,8 @@ use Rattle.replay_script.specs.Fitting.{FitsScript}
 use Rattle.replay_script.specs.Script.{first_fault, given_by}
 use Rattle.ttw_program.specs.declared.script_files.ScriptFile.{ScriptFile}
 use Rattle.ttw_program.specs.declared.script_files.ScriptFile.TheVariants.{Lines, Refused}
-use Rattle.ttw_program.specs.declared.status.Status.{Status}
-use Rattle.ttw_program.specs.declared.status.Status.TheVariants.{Script}
+use Rattle.file_answers.specs.declared.status.Status.{Status}
+use Rattle.file_answers.specs.declared.status.Status.TheVariants.{Script}
 
 -- what is said of a refused script
 abbrev pub fault_said : ScriptFault → List ℕ

@@ -10,10 +10,10 @@ use Rattle.runtime_model.specs.NodeTables.{part_of}
 use Rattle.runtime_model.specs.Plans.{plans_of}
 use Rattle.node_tables.specs.Image.{image_of}
 use Rattle.node_tables.specs.Parts.{typed_table}
-use Rattle.ttw_program.specs.FaultLines.{file_fault_line}
-use Rattle.ttw_program.specs.PlanFiles.{OfPlan, OfSchedules}
-use Rattle.ttw_program.specs.declared.status.Status.{Status}
-use Rattle.ttw_program.specs.declared.status.Status.TheVariants.{Done, ModeFile}
+use Rattle.file_answers.specs.FaultLines.{file_fault_line}
+use Rattle.file_answers.specs.PlanFiles.{OfPlan, OfSchedules}
+use Rattle.file_answers.specs.declared.status.Status.{Status}
+use Rattle.file_answers.specs.declared.status.Status.TheVariants.{Done, ModeFile}
 
 -- some bytes in hexadecimal, as a line
 abbrev pub hex_line : List ℕ → List ℕ

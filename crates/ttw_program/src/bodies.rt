@@ -6,10 +6,9 @@ ghost use Rattle.world_core.specs.StandsFor.{body_names};
 ghost use Rattle.ttw_program.specs.Bodies as lines;
 ghost use Rattle.ttw_program.specs.Bodies.{body_name};
 
-use crate::answers::Answer;
 use crate::fault_lines::no_body_line;
-use crate::status::Status;
 use app_graph::{App, Mode, ModeSet};
+use file_answers::{Answer, Status};
 use std::alloc::{AllocError, Global};
 
 /// Adds the names of the bodies of the application's tasks.

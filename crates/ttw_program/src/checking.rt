@@ -7,14 +7,11 @@ ghost use Rattle.proof_tree.specs.Accepting.{doc_modes, Accepts};
 ghost use Rattle.proof_tree.specs.Fewest.{IsBest};
 ghost use Rattle.ttw_io.specs.Outside.{Rose, OfFile};
 ghost use Rattle.ttw_program.specs.Checks.{CheckDue, accepted_text, mode_line, rounds_said};
-ghost use Rattle.ttw_program.specs.Due.{OfSet};
+ghost use Rattle.file_answers.specs.Due.{OfSet};
 
-use crate::answers::{Answer, End};
-use crate::mode_files::{ModeFile, read_mode_file};
-use crate::plan_files::{PlanFile, read_plan_file};
-use crate::status::Status;
 use app_graph::{Mode, ModeSet};
 use cert_checker::Accepted;
+use file_answers::{Answer, End, ModeFile, PlanFile, Status, read_mode_file, read_plan_file};
 use sched_model::Schedule;
 use std::alloc::{AllocError, Global};
 use ttw_io::Files;

@@ -1,7 +1,7 @@
 //! The lines of two drills, and of one whose bodies are not the set's.
 
 use crate::drilling::answer_drill;
-use crate::status::Status;
+use file_answers::Status;
 use std::test::Fail;
 use task_body::{Hold, Tally, TaskBody};
 

@@ -1,46 +1,19 @@
 //! The end of a run: its text is written whole, and flushed once.
 
-ghost use Rattle.std.specs.Prelude.{◌≡◌, ◌≤◌, false, map};
+ghost use Rattle.std.specs.Prelude.{◌≤◌, map};
 ghost use Rattle.app_graph.specs.Validation.{KeepsRules};
 ghost use Rattle.replay_script.specs.Fitting.{FitsScript};
-ghost use Rattle.ttw_io.specs.Outside.{one_more};
 ghost use Rattle.world_core.specs.StandsFor.{system_with};
 ghost use Rattle.replayer.specs.Replaying.{IsNewWorld, OfReplay};
 ghost use Rattle.replayer.specs.Trace.{trace};
-ghost use Rattle.ttw_program.specs.Endings.{Finishes, FinishesOrNot, IsFlushed};
+ghost use Rattle.file_answers.specs.Endings.{FinishesOrNot};
 
 use crate::replaying::Replay;
-use crate::status::Status;
+use file_answers::{Status, flush};
 use replayer::{ReplayEnd, replay};
 use std::alloc::Global;
 use task_body::TaskBody;
-use ttw_io::{Sink, write_all};
-
-/// Flushes once the text that goes with this status was written.
-fn flush<S: Sink>(out: &mut S, status: Status) -> Status
-    ensures end { IsFlushed status (S.faults out.old) (S.faults out.new) result }
-    ensures once { S.flushes out.new ≡ one_more (S.flushes out.old) }
-    ensures last { S.unflushed out.new ≡ false }
-
-    ensures kept { S.held out.new ≡ S.held out.old }
-    ensures counted { S.faults out.old ≤ S.faults out.new }
-{
-    if out.flush().is_err() {
-        return Status::WriteFault;
-    }
-    status
-}
-
-/// Writes the text and flushes.
-pub(crate) fn finish<S: Sink>(out: &mut S, status: Status, text: &[u8]) -> Status
-    ensures end { Finishes status text.now (record { faults_before = S.faults out.old; faults_now = S.faults out.new; flushes_before = S.flushes out.old; flushes_now = S.flushes out.new; unflushed = S.unflushed out.new }) (S.held out.old) (S.held out.new) result }
-    ensures counted { S.faults out.old ≤ S.faults out.new }
-{
-    if write_all(out, text).is_err() {
-        return Status::WriteFault;
-    }
-    flush(out, status)
-}
+use ttw_io::Sink;
 
 /// Performs the replay, writes its trace as it happens, and flushes.
 pub(crate) fn finish_replay<S: Sink>(

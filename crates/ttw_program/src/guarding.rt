@@ -3,13 +3,11 @@
 ghost use Rattle.std.specs.Prelude.{◌≡◌, ◌≤◌, ◌++◌, IfOk, IsErrOf, OnOk};
 ghost use Rattle.app_graph.specs.Validation.{KeepsRules};
 ghost use Rattle.ttw_io.specs.Outside.{Rose, OfFile};
-ghost use Rattle.ttw_program.specs.Due.{OfSet};
+ghost use Rattle.file_answers.specs.Due.{OfSet};
 ghost use Rattle.ttw_program.specs.Guards.{GuardDue, break_line, guard_lines, guard_text, number_line};
 
-use crate::answers::{Answer, End};
-use crate::mode_files::{ModeFile, read_mode_file};
-use crate::status::Status;
 use app_graph::ModeSet;
+use file_answers::{Answer, End, ModeFile, Status, read_mode_file};
 use guard::{Guard, LeastGuard, least_guard};
 use std::alloc::{AllocError, Global};
 use ttw_io::Files;

@@ -1,7 +1,6 @@
 //! The program: plans for time-triggered wireless control.
 #![tactic(auto)]
 
-mod answers;
 mod bodies;
 mod checking;
 #[cfg(test)]
@@ -15,21 +14,18 @@ mod guarding;
 #[cfg(test)]
 mod hostile_tests;
 pub mod laws;
-mod mode_files;
-mod plan_files;
 mod planning;
 mod program;
 #[cfg(test)]
 mod replay_tests;
 mod replaying;
 mod script_files;
-mod status;
 mod tables;
 #[cfg(test)]
 mod tests;
 
+pub use file_answers::Status;
 pub use program::run;
-pub use status::Status;
 use std::alloc::AllocError;
 use std::env;
 use std::io::ErrorKind;

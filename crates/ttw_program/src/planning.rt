@@ -7,13 +7,12 @@ ghost use Rattle.sched_model.specs.PlainMode.{mode_at};
 ghost use Rattle.ttw_io.specs.Outside.{Rose, OfFile};
 ghost use Rattle.ttw_program.specs.FaultLines as lines;
 ghost use Rattle.ttw_program.specs.Plans.{IsPlans, PlansAll, SpendsFirst, plan_status};
-ghost use Rattle.ttw_program.specs.Due.{OfSet, PlanDue};
+ghost use Rattle.ttw_program.specs.Due.{PlanDue};
+ghost use Rattle.file_answers.specs.Due.{OfSet};
 
-use crate::answers::{Answer, End};
 use crate::fault_lines::budget_line;
-use crate::mode_files::{ModeFile, read_mode_file};
-use crate::status::Status;
 use app_graph::ModeSet;
+use file_answers::{Answer, End, ModeFile, Status, read_mode_file};
 use planner::{Planned, plan_mode};
 use proof_tree::laws::own_documents_have_room;
 use proof_tree::{ModePart, write_plan};

@@ -3,22 +3,21 @@
 ghost use Rattle.std.specs.Prelude.{◌≡◌, ◌≤◌, ℕ, List, map, IfOk, IsErrOf};
 ghost use Rattle.ttw_io.specs.Outside.{Rose, OfFile, Told};
 ghost use Rattle.ttw_text.specs.Numbers.{number_of};
-ghost use Rattle.ttw_program.specs.Endings.{Ends};
+ghost use Rattle.file_answers.specs.Endings.{Ends};
 ghost use Rattle.ttw_program.specs.Commands.{command, drill_of, guard_under, of_four, of_three, of_two, plan_within};
 ghost use Rattle.ttw_program.specs.Due.{Due, OfCommand, IsUsage};
 ghost use Rattle.ttw_program.specs.Replays.{IsReply};
 ghost use Rattle.task_body.specs.Body.{BodySeen};
 
-use crate::answers::{Answer, End};
 use crate::checking::answer_check;
 use crate::drilling::answer_drill;
-use crate::ending::{finish, finish_replay};
-use crate::fault_lines::{READ_FAULT, USAGE};
+use crate::ending::finish_replay;
+use crate::fault_lines::USAGE;
 use crate::guarding::answer_guard;
 use crate::planning::answer_plan;
 use crate::replaying::{Reply, reply_replay};
-use crate::status::Status;
 use crate::tables::answer_tables;
+use file_answers::{Answer, End, READ_FAULT, Status, finish};
 use std::alloc::Global;
 use task_body::TaskBody;
 use ttw_io::{Files, Sink};

@@ -5,10 +5,9 @@ ghost use Rattle.app_graph.specs.Validation.{KeepsRules};
 ghost use Rattle.ttw_io.specs.Outside.{Rose};
 ghost use Rattle.ttw_program.specs.ScriptFiles.{ScriptSaid, ScriptSaidOf, TellsFault};
 
-use crate::answers::{Answer, End};
 use crate::fault_lines::script_line;
-use crate::status::Status;
 use app_graph::{ListOf, ModeSet};
+use file_answers::{Answer, End, Status};
 use replay_script::{Line, ScriptFault, read_script};
 use std::alloc::{AllocError, Global};
 use ttw_io::{Files, ReadEnd, read_all};

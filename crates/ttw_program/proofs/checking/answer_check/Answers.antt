@@ -2,9 +2,9 @@ use Rattle.std.proofs.Common.{subst, List, ℕ}
 use Rattle.std.specs.Prelude.{IfOk}
 use Rattle.ttw_io.specs.Outside.{OfFile, Told}
 use Rattle.ttw_program.specs.Checks.{CheckDue}
-use Rattle.ttw_program.specs.ModeFiles.{SaysOf}
-use Rattle.ttw_program.proofs.Answering.{of_refused, said_keeps}
-use Rattle.ttw_program.proofs.CheckAnswers.{answer_said}
+use Rattle.file_answers.specs.ModeFiles.{SaysOf}
+use Rattle.file_answers.proofs.ModeFileLemmas.{of_refused, said_keeps}
+use Rattle.file_answers.proofs.PlanFileLemmas.{answer_said}
 use Rattle.ttw_program.proofs.checking.answer_check.Goals as goal
 
 pub check_plan-requires : goal.check_plan-requires

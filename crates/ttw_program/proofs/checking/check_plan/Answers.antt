@@ -1,7 +1,7 @@
 use Rattle.std.proofs.Common.{subst}
 use Rattle.ttw_program.specs.Checks.{IsVerdict}
-use Rattle.ttw_program.specs.PlanFiles.{PlanSaidOf}
-use Rattle.ttw_program.proofs.CheckAnswers.{of_accepted, of_refused_plan}
+use Rattle.file_answers.specs.PlanFiles.{PlanSaidOf}
+use Rattle.file_answers.proofs.PlanFileLemmas.{of_accepted, of_refused_plan}
 use Rattle.ttw_program.proofs.checking.check_plan.Goals as goal
 
 pub returns-in_ok-accepted_answer-in-Accepted-clause-due : goal.returns-in_ok-accepted_answer-in-Accepted-clause-due

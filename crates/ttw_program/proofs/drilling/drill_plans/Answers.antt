@@ -1,7 +1,7 @@
 use Rattle.std.proofs.Common.{arith, subst, sym, List}
 use Rattle.sched_model.specs.declared.schedule.Schedule.{Schedule}
 use Rattle.runtime_model.specs.Plans.{AreSchedules}
-use Rattle.ttw_program.specs.PlanFiles.{HasSchedules}
+use Rattle.file_answers.specs.PlanFiles.{HasSchedules}
 use Rattle.ttw_program.proofs.TableAnswers.{schedules_right, few_before}
 use Rattle.ttw_program.proofs.drilling.drill_plans.Goals as goal
 

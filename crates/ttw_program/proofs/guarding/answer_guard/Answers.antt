@@ -1,7 +1,7 @@
 use Rattle.std.proofs.Common.{subst}
 use Rattle.ttw_program.specs.Guards.{GuardDue}
-use Rattle.ttw_program.specs.ModeFiles.{SaysOf}
-use Rattle.ttw_program.proofs.Answering.{of_said, of_refused, said_keeps}
+use Rattle.file_answers.specs.ModeFiles.{SaysOf}
+use Rattle.file_answers.proofs.ModeFileLemmas.{of_said, of_refused, said_keeps}
 use Rattle.ttw_program.proofs.guarding.answer_guard.Goals as goal
 
 pub guard_set-requires-clause-rules : goal.guard_set-requires-clause-rules

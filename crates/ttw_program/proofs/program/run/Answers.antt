@@ -1,11 +1,12 @@
 use Rattle.std.proofs.Common.{subst, ap, List, ℕ, map, Err}
 use Rattle.ttw_io.specs.Outside.{Rose}
-use Rattle.ttw_program.specs.declared.status.Status.TheVariants.{ReadFault}
+use Rattle.file_answers.specs.declared.status.Status.TheVariants.{ReadFault}
 use Rattle.ttw_program.specs.Commands.{command}
-use Rattle.ttw_program.specs.Endings.{Counts, Finishes}
+use Rattle.file_answers.specs.Endings.{Counts, Finishes}
 use Rattle.ttw_program.specs.Due.{Due}
 use Rattle.ttw_program.specs.Replays.{IsReply}
-use Rattle.ttw_program.proofs.EndingLemmas.{due_answered, ends_answer, ends_read, ends_trace}
+use Rattle.ttw_program.proofs.EndingLemmas.{due_answered, ends_trace}
+use Rattle.file_answers.proofs.EndingLemmas.{ends_answer, ends_read}
 use Rattle.ttw_program.proofs.program.run.Goals as goal
 
 pub returns-in-Ok-Text-clause-end : goal.returns-in-Ok-Text-clause-end

@@ -1,7 +1,7 @@
 use Rattle.std.proofs.Common.{arith, inr, map, subst, sym, List}
 use Rattle.sched_model.specs.declared.schedule.Schedule.{Schedule}
 use Rattle.runtime_model.specs.Plans.{AreSchedules}
-use Rattle.ttw_program.specs.PlanFiles.{HasSchedules, OfSchedules}
+use Rattle.file_answers.specs.PlanFiles.{HasSchedules, OfSchedules}
 use Rattle.ttw_program.specs.Replays.{TraceDue}
 use Rattle.ttw_program.proofs.ReplayAnswers.{result_more}
 use Rattle.ttw_program.proofs.TableAnswers.{schedules_right, few_before}

@@ -1,9 +1,9 @@
 use Rattle.std.proofs.Common.{map, subst, List, ℕ}
 use Rattle.std.specs.Prelude.{IfOk}
 use Rattle.ttw_io.specs.Outside.{OfFile, Told}
-use Rattle.ttw_program.specs.PlanFiles.{OfPlan, OfSchedules, PlanSaidOf}
+use Rattle.file_answers.specs.PlanFiles.{OfPlan, OfSchedules, PlanSaidOf}
 use Rattle.ttw_program.specs.Replays.{IsReply, TraceDue}
-use Rattle.ttw_program.proofs.CheckAnswers.{of_accepted, of_refused_plan}
+use Rattle.file_answers.proofs.PlanFileLemmas.{of_accepted, of_refused_plan}
 use Rattle.ttw_program.proofs.ReplayAnswers.{result_more}
 use Rattle.ttw_program.proofs.replaying.reply_plan.Goals as goal
 

@@ -1,10 +1,10 @@
 use Rattle.std.proofs.Common.{map, subst, List, ℕ}
 use Rattle.std.specs.Prelude.{IfOk}
 use Rattle.ttw_io.specs.Outside.{OfFile, Told}
-use Rattle.ttw_program.specs.Due.{OfSet}
-use Rattle.ttw_program.specs.ModeFiles.{SaysOf}
+use Rattle.file_answers.specs.Due.{OfSet}
+use Rattle.file_answers.specs.ModeFiles.{SaysOf}
 use Rattle.ttw_program.specs.Replays.{IsReply, ReplayDue}
-use Rattle.ttw_program.proofs.Answering.{of_said, of_refused, said_keeps}
+use Rattle.file_answers.proofs.ModeFileLemmas.{of_said, of_refused, said_keeps}
 use Rattle.ttw_program.proofs.ReplayAnswers.{result_more}
 use Rattle.ttw_program.proofs.replaying.reply_replay.Goals as goal
 

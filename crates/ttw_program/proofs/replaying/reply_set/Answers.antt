@@ -1,6 +1,6 @@
 use Rattle.std.proofs.Common.{inr, map}
 use Rattle.ttw_io.specs.Outside.{OfFile}
-use Rattle.ttw_program.specs.PlanFiles.{OfPlan, OfSchedules}
+use Rattle.file_answers.specs.PlanFiles.{OfPlan, OfSchedules}
 use Rattle.ttw_program.specs.Replays.{ReplayDue, TraceDue}
 use Rattle.ttw_program.proofs.ReplayAnswers.{result_more}
 use Rattle.ttw_program.proofs.replaying.reply_set.Goals as goal

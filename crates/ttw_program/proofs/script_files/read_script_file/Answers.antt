@@ -1,6 +1,6 @@
 use Rattle.std.proofs.Common.{subst, List, ℕ}
 use Rattle.ttw_program.specs.ScriptFiles.{ScriptSaid}
-use Rattle.ttw_program.proofs.Answering.{longer_at}
+use Rattle.file_answers.proofs.ModeFileLemmas.{longer_at}
 use Rattle.ttw_program.proofs.ReplayAnswers.{long_script}
 use Rattle.ttw_program.proofs.script_files.read_script_file.Goals as goal
 

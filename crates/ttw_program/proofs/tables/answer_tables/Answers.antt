@@ -1,10 +1,10 @@
 use Rattle.std.proofs.Common.{subst, List, ℕ}
 use Rattle.std.specs.Prelude.{IfOk}
 use Rattle.ttw_io.specs.Outside.{Told}
-use Rattle.ttw_program.specs.ModeFiles.{SaysOf}
+use Rattle.file_answers.specs.ModeFiles.{SaysOf}
 use Rattle.ttw_program.specs.Tables.{TablesDue}
-use Rattle.ttw_program.proofs.Answering.{of_refused, said_keeps}
-use Rattle.ttw_program.proofs.CheckAnswers.{answer_said}
+use Rattle.file_answers.proofs.ModeFileLemmas.{of_refused, said_keeps}
+use Rattle.file_answers.proofs.PlanFileLemmas.{answer_said}
 use Rattle.ttw_program.proofs.tables.answer_tables.Goals as goal
 
 pub tables_node-requires : goal.tables_node-requires

@@ -1,7 +1,7 @@
 use Rattle.std.proofs.Common.{subst}
-use Rattle.ttw_program.specs.PlanFiles.{OfSchedules, PlanSaidOf}
+use Rattle.file_answers.specs.PlanFiles.{OfSchedules, PlanSaidOf}
 use Rattle.ttw_program.specs.Tables.{IsImage}
-use Rattle.ttw_program.proofs.CheckAnswers.{accepted_right, of_accepted, of_refused_plan}
+use Rattle.file_answers.proofs.PlanFileLemmas.{accepted_right, of_accepted, of_refused_plan}
 use Rattle.ttw_program.proofs.tables.tables_plan.Goals as goal
 
 pub tables_accepted-requires-clause-right : goal.tables_accepted-requires-clause-right

@@ -4,10 +4,10 @@ use Rattle.ttw_io.specs.Outside.{Told, untold, missing, file}
 use Rattle.app_graph.specs.Validation.{KeepsRules}
 use Rattle.mode_file.specs.declared.faults.FileFault.{FileFault}
 use Rattle.mode_file.specs.Reading.{Reads, Broken}
-use Rattle.ttw_program.specs.declared.mode_files.ModeFile.{ModeFile}
-use Rattle.ttw_program.specs.declared.mode_files.ModeFile.TheVariants.{Set, Refused}
-use Rattle.ttw_program.specs.declared.status.Status.TheVariants as status
-use Rattle.ttw_program.specs.FaultLines.{file_fault_line}
+use Rattle.file_answers.specs.declared.mode_files.ModeFile.{ModeFile}
+use Rattle.file_answers.specs.declared.mode_files.ModeFile.TheVariants.{Set, Refused}
+use Rattle.file_answers.specs.declared.status.Status.TheVariants as status
+use Rattle.file_answers.specs.FaultLines.{file_fault_line}
 
 -- a mode set that keeps the rules, or the answer that refuses the bytes of a mode file
 abbrev pub Said : List ℕ → ModeFile → Type 0

@@ -2,8 +2,8 @@
 
 ghost use Rattle.std.specs.Prelude.{◌≡◌, ◌≤◌, IfOk, IsErrOf};
 ghost use Rattle.ttw_io.specs.Outside.{Rose};
-ghost use Rattle.ttw_program.specs.FaultLines.{Refuses};
-ghost use Rattle.ttw_program.specs.ModeFiles.{Said, SaysOf};
+ghost use Rattle.file_answers.specs.FaultLines.{Refuses};
+ghost use Rattle.file_answers.specs.ModeFiles.{Said, SaysOf};
 
 use crate::answers::{Answer, End};
 use crate::fault_lines::file_fault_line;
@@ -18,7 +18,7 @@ const MOST_BYTES: u64 = 1_048_576;
 
 /// What a mode file says.
 #[derive(Drop)]
-pub(crate) enum ModeFile {
+pub enum ModeFile {
     /// A mode set.
     Set(ModeSet),
     /// Nothing: the answer that refuses it.
@@ -52,7 +52,7 @@ fn read_bytes(alloc: Global, bytes: &[u8]) -> Result<ModeFile, AllocError>
 }
 
 /// Reads the mode file of this name.
-pub(crate) fn read_mode_file<F: Files>(
+pub fn read_mode_file<F: Files>(
     alloc: Global,
     file: &str,
     files: &mut F,

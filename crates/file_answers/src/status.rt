@@ -1,7 +1,7 @@
 //! How a run ends.
 
 ghost use Rattle.std.specs.Prelude.{◌≡◌};
-ghost use Rattle.ttw_program.specs.Statuses.{code_of};
+ghost use Rattle.file_answers.specs.Statuses.{code_of};
 
 /// The status with which the program ends.
 #[derive(Clone, Copy, Debug, PartialEq, Eq)]

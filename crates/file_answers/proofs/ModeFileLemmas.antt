@@ -16,15 +16,15 @@ use Rattle.mode_file.specs.Reading.{Broken, toml_rule, top_table, raw_of}
 use Rattle.mode_file.specs.Faults.{of_graph}
 use Rattle.mode_file.specs.Tables.{table_rules}
 use Rattle.mode_file.specs.Walks.{Breaks}
-use Rattle.ttw_program.specs.declared.status.Status.{Status}
-use Rattle.ttw_program.specs.declared.status.Status.TheVariants.{ModeFile}
-use Rattle.ttw_program.specs.FaultLines.{file_fault_line}
-use Rattle.ttw_program.specs.declared.answers.Answer.{Answer}
-use Rattle.ttw_program.specs.declared.mode_files.ModeFile.{ModeFile as Says}
-use Rattle.ttw_program.specs.declared.mode_files.ModeFile.TheVariants.{Set, Refused}
+use Rattle.file_answers.specs.declared.status.Status.{Status}
+use Rattle.file_answers.specs.declared.status.Status.TheVariants.{ModeFile}
+use Rattle.file_answers.specs.FaultLines.{file_fault_line}
+use Rattle.file_answers.specs.declared.answers.Answer.{Answer}
+use Rattle.file_answers.specs.declared.mode_files.ModeFile.{ModeFile as Says}
+use Rattle.file_answers.specs.declared.mode_files.ModeFile.TheVariants.{Set, Refused}
 use Rattle.app_graph.specs.Validation.{KeepsRules}
-use Rattle.ttw_program.specs.ModeFiles.{Said, SaysOf}
-use Rattle.ttw_program.specs.Due.{OfSet}
+use Rattle.file_answers.specs.ModeFiles.{Said, SaysOf}
+use Rattle.file_answers.specs.Due.{OfSet}
 
 -- a fault that is not want of memory is that of the first broken rule
 pub breaks_fault : (fault : FileFault) (rule : Rule FileFault) → Breaks fault rule → (fault ≡ Memory → ⊥) → rule ≡ Some fault

@@ -1,9 +1,9 @@
 use Rattle.std.proofs.Common.{◌∙◌, ap, sym, ◌++◌}
 use Rattle.cert_checker.specs.declared.refused.Refused.{Refused}
 use Rattle.cert_checker.specs.Refusals.{said}
-use Rattle.ttw_program.specs.PlanFiles.{refusal_said}
-use Rattle.ttw_program.proofs.CheckAnswers.{two_texts}
-use Rattle.ttw_program.proofs.fault_lines.write_refusal.Goals as goal
+use Rattle.file_answers.specs.PlanFiles.{refusal_said}
+use Rattle.file_answers.proofs.PlanFileLemmas.{two_texts}
+use Rattle.file_answers.proofs.fault_lines.write_refusal.Goals as goal
 
 pub returns-in_ok-put-in-Unfinished-2 : goal.returns-in_ok-put-in-Unfinished-2
 returns-in_ok-put-in-Unfinished-2 c =

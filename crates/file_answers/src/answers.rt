@@ -8,7 +8,7 @@ use ttw_text::Out;
 
 /// Why there is no answer to write.
 #[derive(Drop)]
-pub(crate) enum End {
+pub enum End {
     /// A read failed.
     Read,
     /// Memory ran out.
@@ -16,7 +16,7 @@ pub(crate) enum End {
 }
 
 impl From<AllocError> for End {
-    ghost use Rattle.ttw_program.specs.declared.answers.End.TheVariants.{Memory};
+    ghost use Rattle.file_answers.specs.declared.answers.End.TheVariants.{Memory};
 
     ghost from_gives = { λ _ e. e ≡ Memory };
 
@@ -27,14 +27,14 @@ impl From<AllocError> for End {
 
 /// A status, and the text that goes with it.
 #[derive(Drop)]
-pub(crate) struct Answer {
-    pub(crate) status: Status,
-    pub(crate) text: Out,
+pub struct Answer {
+    pub status: Status,
+    pub text: Out,
 }
 
 impl Answer {
     /// The answer with this line as its text.
-    pub(crate) fn told(alloc: Global, status: Status, line: &str) -> Result<Self, AllocError>
+    pub fn told(alloc: Global, status: Status, line: &str) -> Result<Self, AllocError>
         ensures status { IfOk result (λ a. a.status ≡ status) }
         ensures text { IfOk result (λ a. a.text ≡ line.now) }
     {

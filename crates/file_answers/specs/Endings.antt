@@ -2,9 +2,9 @@
 use Rattle.std.specs.Prelude.{◌≡◌, ℕ, ◌⊎◌, Bool, false, List, Option}
 use Rattle.std.specs.Io.KnownBytes.{append_known}
 use Rattle.ttw_io.specs.Outside.{Rose, AddsFront, one_more}
-use Rattle.ttw_program.specs.declared.status.Status.{Status}
-use Rattle.ttw_program.specs.declared.status.Status.TheVariants.{ReadFault, WriteFault, Memory}
-use Rattle.ttw_program.specs.FaultLines.{read_fault_line}
+use Rattle.file_answers.specs.declared.status.Status.{Status}
+use Rattle.file_answers.specs.declared.status.Status.TheVariants.{ReadFault, WriteFault, Memory}
+use Rattle.file_answers.specs.FaultLines.{read_fault_line}
 
 -- of a sink the counts of faults and of flushes, before the run and after it, and whether it was written to after the last
 -- flush

@@ -1,7 +1,7 @@
 use Rattle.std.proofs.Common.{rules, ◌≡◌, length, ◌∙◌, ◌++◌, List, Some, ap, map, ◌∷◌}
 use Rattle.sched_model.specs.declared.schedule.Schedule.{Schedule}
-use Rattle.ttw_program.proofs.TableAnswers.{next_schedule, lacks_one, all_schedules}
-use Rattle.ttw_program.proofs.plan_files.schedules_of.Goals as goal
+use Rattle.file_answers.proofs.PlanFileLemmas.{next_schedule, lacks_one, all_schedules}
+use Rattle.file_answers.proofs.plan_files.schedules_of.Goals as goal
 
 pub loop-plan-init : goal.loop-plan-init
 loop-plan-init c =

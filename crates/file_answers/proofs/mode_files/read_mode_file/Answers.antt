@@ -1,5 +1,5 @@
-use Rattle.ttw_program.proofs.Answering.{longer_at, says_longer}
-use Rattle.ttw_program.proofs.mode_files.read_mode_file.Goals as goal
+use Rattle.file_answers.proofs.ModeFileLemmas.{longer_at, says_longer}
+use Rattle.file_answers.proofs.mode_files.read_mode_file.Goals as goal
 
 pub returns-in_ok-refused-in-Err-Long-clause-says : goal.returns-in_ok-refused-in-Err-Long-clause-says
 returns-in_ok-refused-in-Err-Long-clause-says g c =

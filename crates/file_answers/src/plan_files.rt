@@ -3,7 +3,7 @@
 ghost use Rattle.std.specs.Prelude.{◌≡◌, ◌≤◌, IfOk, IsErrOf};
 ghost use Rattle.app_graph.specs.Validation.{KeepsRules};
 ghost use Rattle.ttw_io.specs.Outside.{Rose};
-ghost use Rattle.ttw_program.specs.PlanFiles.{HasSchedules, PlanSaidOf};
+ghost use Rattle.file_answers.specs.PlanFiles.{HasSchedules, PlanSaidOf};
 
 use crate::answers::{Answer, End};
 use crate::fault_lines::refusal_line;
@@ -16,7 +16,7 @@ use ttw_io::Files;
 
 /// What a plan document says.
 #[derive(Drop)]
-pub(crate) enum PlanFile {
+pub enum PlanFile {
     /// A schedule, or that there is none, for each mode.
     Accepted(Accepted),
     /// Nothing: the answer that refuses it.
@@ -25,7 +25,7 @@ pub(crate) enum PlanFile {
 
 /// The schedules of an accepted plan.
 #[derive(Drop)]
-pub(crate) enum Schedules {
+pub enum Schedules {
     /// One for each mode.
     All(Vec<Schedule>),
     /// The mode of this number is the first that has none.
@@ -33,7 +33,7 @@ pub(crate) enum Schedules {
 }
 
 /// Reads the plan of this name for the set, line by line.
-pub(crate) fn read_plan_file<F: Files>(
+pub fn read_plan_file<F: Files>(
     alloc: Global,
     set: &ModeSet,
     plan: &str,
@@ -57,7 +57,7 @@ pub(crate) fn read_plan_file<F: Files>(
 }
 
 /// The schedules of all modes, or the first mode without one.
-pub(crate) fn schedules_of(
+pub fn schedules_of(
     alloc: Global,
     plans: ListOf<Option<Schedule>>,
 ) -> Result<Schedules, AllocError>

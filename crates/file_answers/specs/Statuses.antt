@@ -1,7 +1,7 @@
 -- The exit status of each ending
 use Rattle.std.specs.Prelude.{ℕ}
-use Rattle.ttw_program.specs.declared.status.Status.{Status}
-use Rattle.ttw_program.specs.declared.status.Status.TheVariants.{Done, NoSchedule, Usage, ModeFile, Plan, Script, Budget, ReadFault, WriteFault, Memory}
+use Rattle.file_answers.specs.declared.status.Status.{Status}
+use Rattle.file_answers.specs.declared.status.Status.TheVariants.{Done, NoSchedule, Usage, ModeFile, Plan, Script, Budget, ReadFault, WriteFault, Memory}
 
 abbrev pub code_of : Status → ℕ
 code_of Done = 0

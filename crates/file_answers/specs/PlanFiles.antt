@@ -1,5 +1,5 @@
 -- What a plan document says, as the program keeps it, and what is due of it
-use Rattle.std.specs.Prelude.{◌≡◌, ◌⊎◌, ℕ, codes, ◌<◌, ◌≤◌, List, [], ◌∷◌, ◌++◌, length, map, Option, Some, None}
+use Rattle.std.specs.Prelude.{◌≡◌, ◌⊎◌, ℕ, codes, List, [], ◌∷◌, ◌++◌, length, map, Option, Some, None}
 use Rattle.std.specs.List.{AllZip}
 use Rattle.ttw_io.specs.Outside.{Told, untold, missing, file}
 use Rattle.ttw_text.specs.Numbers.{spelled}
@@ -10,12 +10,12 @@ use Rattle.proof_tree.specs.Accepting.{doc_modes, Accepts}
 use Rattle.proof_tree.specs.Fewest.{IsBest}
 use Rattle.proof_tree.specs.Reading.{Refusal, Grammar, Names, Clause, BadLeaf, Extra, MissingCount, Unfinished}
 use Rattle.proof_tree.specs.Refusing.{Refuses}
-use Rattle.ttw_program.specs.declared.plan_files.PlanFile.{PlanFile}
-use Rattle.ttw_program.specs.declared.plan_files.PlanFile.TheVariants.{Accepted, Refused}
-use Rattle.ttw_program.specs.declared.plan_files.Schedules.{Schedules}
-use Rattle.ttw_program.specs.declared.plan_files.Schedules.TheVariants.{All, Without}
-use Rattle.ttw_program.specs.declared.status.Status.{Status}
-use Rattle.ttw_program.specs.declared.status.Status.TheVariants.{Plan}
+use Rattle.file_answers.specs.declared.plan_files.PlanFile.{PlanFile}
+use Rattle.file_answers.specs.declared.plan_files.PlanFile.TheVariants.{Accepted, Refused}
+use Rattle.file_answers.specs.declared.plan_files.Schedules.{Schedules}
+use Rattle.file_answers.specs.declared.plan_files.Schedules.TheVariants.{All, Without}
+use Rattle.file_answers.specs.declared.status.Status.{Status}
+use Rattle.file_answers.specs.declared.status.Status.TheVariants.{Plan}
 
 -- ---- refused documents
 

@@ -1,0 +1,3 @@
+pub mod ModeFileLemmas
+pub mod PlanFileLemmas
+pub mod EndingLemmas
