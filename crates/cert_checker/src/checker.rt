@@ -65,7 +65,8 @@ impl<'a> Checker<'a> {
     {
         let end = self.place + bytes.len() as u64;
         let item = read_line(bytes, end, self.line)?;
-        self.stage.take(alloc, set, &mut self.plans, self.line, &item)?;
+        self.stage
+            .take(alloc, set, &mut self.plans, self.line, &item)?;
         self.line += 1;
         self.place = end;
         Ok(())

@@ -90,11 +90,7 @@ fn write_refusal(set: &ModeSet, refused: Refused, out: &mut Out) -> Result<(), A
 }
 
 /// The line of a refused plan.
-pub fn refusal_line(
-    alloc: Global,
-    set: &ModeSet,
-    refused: Refused,
-) -> Result<Out, AllocError>
+pub fn refusal_line(alloc: Global, set: &ModeSet, refused: Refused) -> Result<Out, AllocError>
     ensures { IfOk result (λ out. out ≡ plans.refusal_line set.now (refusals.said refused)) }
 {
     let mut out = Out::make(alloc);

@@ -52,11 +52,7 @@ fn read_bytes(alloc: Global, bytes: &[u8]) -> Result<ModeFile, AllocError>
 }
 
 /// Reads the mode file of this name.
-pub fn read_mode_file<F: Files>(
-    alloc: Global,
-    file: &str,
-    files: &mut F,
-) -> Result<ModeFile, End>
+pub fn read_mode_file<F: Files>(alloc: Global, file: &str, files: &mut F) -> Result<ModeFile, End>
     ensures says { IfOk result (SaysOf (F.contents files.old file.now)) }
     ensures read { IsErrOf result End.Read → Rose (F.faults files.old) (F.faults files.new) }
     ensures kept { F.contents files.new ≡ F.contents files.old }

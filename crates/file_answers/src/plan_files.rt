@@ -57,10 +57,7 @@ pub fn read_plan_file<F: Files>(
 }
 
 /// The schedules of all modes, or the first mode without one.
-pub fn schedules_of(
-    alloc: Global,
-    plans: ListOf<Option<Schedule>>,
-) -> Result<Schedules, AllocError>
+pub fn schedules_of(alloc: Global, plans: ListOf<Option<Schedule>>) -> Result<Schedules, AllocError>
     ensures { IfOk result (HasSchedules plans) }
 {
     let mut schedules = Vec::new(alloc);

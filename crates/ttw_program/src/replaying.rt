@@ -14,7 +14,10 @@ ghost use Rattle.ttw_program.specs.Replays.{IsReply, ReplayDue, TraceDue};
 use crate::bodies::no_body;
 use crate::script_files::{ScriptFile, read_script_file};
 use app_graph::{ListOf, ModeSet};
-use file_answers::{Answer, End, ModeFile, PlanFile, Schedules, Status, none_line, read_mode_file, read_plan_file, schedules_of};
+use file_answers::{
+    Answer, End, ModeFile, PlanFile, Schedules, Status, none_line, read_mode_file, read_plan_file,
+    schedules_of,
+};
 use replay_script::Line;
 use sched_model::Schedule;
 use std::alloc::Global;

@@ -13,7 +13,10 @@ ghost use Rattle.ttw_program.specs.Tables.{ImageDue, IsImage, TablesDue, hex_lin
 
 use crate::fault_lines::unknown_node_line;
 use app_graph::{ListOf, ModeSet};
-use file_answers::{Answer, End, ModeFile, PlanFile, Schedules, Status, none_line, read_mode_file, read_plan_file, schedules_of};
+use file_answers::{
+    Answer, End, ModeFile, PlanFile, Schedules, Status, none_line, read_mode_file, read_plan_file,
+    schedules_of,
+};
 use node_tables::{tables_of, write_image};
 use sched_model::Schedule;
 use std::alloc::{AllocError, Global};
