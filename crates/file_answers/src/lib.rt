@@ -1,5 +1,5 @@
 //! Mode files and plans that a program is given by name: what they say, or the answer that refuses them; and how a
-//! program's run ends.
+//! program's run ends. docs/COMMANDS.md lists the lines and the statuses.
 #![tactic(auto)]
 
 mod answers;
